@@ -1,0 +1,178 @@
+-- Events and refusals (document 01, 'Events' and 'Refusal numbers').
+use mathlib.Core.Bool.{Bool, cond, not, _&&_, _||_}
+use mathlib.Core.List.{List, [], _∷_}
+use Prim.Native.Nat.{ℕ}
+use lib.Dec.{eqb, leb, ltb}
+use lib.ListN.{set}
+use Rattle.model.specs.declared.Port.{Port}
+use Rattle.model.specs.declared.Copies.{Copies}
+use Rattle.model.specs.declared.Shared.{Shared}
+use Rattle.model.specs.declared.Table.{Table}
+use Rattle.model.specs.declared.View.{View}
+use Rattle.model.specs.declared.Move.{Move}
+use Rattle.model.specs.declared.Touch.{Touch}
+use Rattle.model.specs.declared.Charge.{Charge}
+use Rattle.model.specs.declared.Outcome.{Outcome}
+use Rattle.model.specs.declared.Made.{Made}
+use Rattle.model.specs.declared.Answer.{Answer}
+use Rattle.model.specs.declared.Answer.the-variants.{Done, BadTable, NoSuchPort, NoSuchEvent, Busy, Worn, NotInside, Idle, Inside, BadSize, ShortRoom, BadImage}
+use Rattle.model.specs.Table.{most, noWork, portIn, portAt, copiesAt, putPort, freshTable}
+use Rattle.model.specs.Points.{pointOf, settled}
+use Rattle.model.specs.Good.{sizeGood, good}
+use Rattle.model.specs.Step.{at, withFlag, withValue, withWork, step}
+use Rattle.model.specs.Cost.{touchAt, home, old, charge}
+
+-- document 01's number for every answer
+abbrev pub numberOf : Answer → ℕ
+numberOf Done = 0
+numberOf BadTable = 1
+numberOf NoSuchPort = 2
+numberOf NoSuchEvent = 3
+numberOf Busy = 4
+numberOf Worn = 5
+numberOf NotInside = 6
+numberOf Idle = 7
+numberOf Inside = 8
+numberOf BadSize = 9
+numberOf ShortRoom = 10
+numberOf BadImage = 11
+
+-- the numbers of the events
+abbrev pub enter : ℕ
+enter = 1
+
+abbrev pub stepping : ℕ
+stepping = 2
+
+abbrev pub crash : ℕ
+crash = 3
+
+abbrev pub callOff : ℕ
+callOff = 4
+
+abbrev pub leave : ℕ
+leave = 5
+
+-- the refusals of an event at a port that there is, each exactly when document 01 gives it
+unfoldable pub busy : ℕ → Port → Bool
+busy e p = eqb e enter && not (eqb (p .point) 0)
+
+unfoldable pub worn : ℕ → Port → Bool
+worn e p = ((eqb e enter && eqb (p .point) 0) || (eqb e stepping && eqb (p .point) 4)) && eqb (p .made) most
+
+unfoldable pub notInside : ℕ → Port → Bool
+notInside e p = eqb e leave && not (eqb (p .point) 11)
+
+unfoldable pub idle : ℕ → Port → Bool
+idle e p = (eqb e stepping || eqb e crash || eqb e callOff) && eqb (p .point) 0
+
+unfoldable pub inside : ℕ → Port → Bool
+inside e p = eqb e stepping && eqb (p .point) 11
+
+-- the answer of the first test that passes, or else DONE
+unfoldable pub firstOf : List (Bool × Answer) → Answer
+firstOf [] = Done
+firstOf (r ∷ rs) = cond (r .0) (r .1) (firstOf rs)
+
+-- the refusals of an event at a port that there is, lowest first; and what an event answers on a good table
+unfoldable pub refusals : ℕ → Port → List (Bool × Answer)
+refusals e p =
+    (not (leb 1 e && leb e 5), NoSuchEvent)
+    ∷ (busy e p, Busy)
+    ∷ (worn e p, Worn)
+    ∷ (notInside e p, NotInside)
+    ∷ (idle e p, Idle)
+    ∷ (inside e p, Inside)
+    ∷ []
+
+unfoldable pub refusal : Table → ℕ → ℕ → Answer
+unfolding firstOf
+refusal t k e = firstOf ((leb (t .shared .d) k, NoSuchPort) ∷ refusals e (portAt t k))
+
+-- a port after an event that is no step. E: point 0 becomes 1. X: point becomes 1, working values 0, nothing else. A: flag becomes 1.
+-- L: point 11 becomes 13
+unfoldable pub ordered : ℕ → Port → Port
+ordered e p =
+    cond (eqb e enter)
+    (at 1 p)
+    (cond (eqb e crash) (at 1 (withWork noWork p)) (cond (eqb e callOff) (withFlag 1 p) (at 13 p)))
+
+-- the step of port k: which word it touches, the port that the word belongs to, what it sees, what it changes, what it costs
+unfoldable pub touchOf : Table → ℕ → Touch
+touchOf t k = touchAt (pointOf (portAt t k .point))
+
+unfoldable pub homeOf : Table → ℕ → ℕ
+homeOf t k = home (touchOf t k .cell) k (portAt t k .work)
+
+unfoldable pub viewOf : Table → ℕ → View
+viewOf t k =
+    record {
+      own = portAt t k;
+      active = t .shared .active;
+      d = t .shared .d;
+      k = k;
+      go = portAt t (homeOf t k) .go;
+      word = t .shared .word;
+    }
+
+unfoldable pub moveOf : Table → ℕ → Move
+moveOf t k = step (pointOf (portAt t k .point)) (viewOf t k)
+
+-- what all share with the move's ACTIVE and word; the copies of a port's words, with none of a spin that is new
+abbrev pub sharedAfter : Move → Shared → Shared
+sharedAfter m s =
+    record { active = m .active; activecopies = s .activecopies; wordcopies = s .wordcopies; d = s .d; word = m .word }
+
+abbrev pub copiesAfter : Move → Copies → Copies
+copiesAfter m c = record { status = c .status; go = c .go; spin = cond (m .makes) 0 (c .spin) }
+
+unfoldable pub chargeOf : Table → ℕ → Charge
+chargeOf t k =
+    charge
+    (touchOf t k)
+    k
+    (portAt t k .work)
+    (portAt t (homeOf t k))
+    (sharedAfter (moveOf t k) (t .shared))
+    (copiesAfter (moveOf t k) (copiesAt t (homeOf t k)))
+
+-- the ports with the seen owner's seen spin set to 1; a write to an older spin changes nothing
+unfoldable pub marked : Table → ℕ → List Port → List Port
+marked t k ps =
+    cond (moveOf t k .sets && not (old (touchOf t k .cell) (portAt t k .work) (portAt t (homeOf t k))))
+    (set ps (homeOf t k) (withValue 1 (portIn ps (homeOf t k))))
+    ps
+
+unfoldable pub stepped : Table → ℕ → Outcome
+stepped t k =
+    record {
+      table =
+          record {
+            ports = marked t k (set (t .ports) k (settled (moveOf t k .own)));
+            copies = set (t .copies) (homeOf t k) (chargeOf t k .copies);
+            shared = chargeOf t k .shared;
+          };
+      cached = chargeOf t k .cached;
+      distributed = chargeOf t k .distributed;
+      answer = Done;
+    }
+
+-- an answer with costs 0: a refused event gives the table that it got
+abbrev pub free : Answer → Table → Outcome
+free a t = record { table = t; cached = 0; distributed = 0; answer = a }
+
+-- an event that is not refused; only S costs anything
+unfoldable pub carried : Table → ℕ → ℕ → Outcome
+carried t k e = cond (eqb e stepping) (stepped t k) (free Done (putPort t k (ordered e (portAt t k))))
+
+-- an event on a good table, and on any
+unfoldable pub eventGood : Table → ℕ → ℕ → Outcome
+eventGood t k e = cond (eqb (numberOf (refusal t k e)) 0) (carried t k e) (free (refusal t k e) t)
+
+unfoldable pub event : Table → ℕ → ℕ → Outcome
+event t k e = cond (good t) (eventGood t k e) (free BadTable t)
+
+-- a fresh table: D not 1 to the room is BAD SIZE with the fresh table of D = 1
+unfoldable pub fresh : ℕ → Made
+fresh d =
+    cond (sizeGood d) (record { table = freshTable d; answer = Done }) (record { table = freshTable 1; answer = BadSize })

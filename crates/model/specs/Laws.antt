@@ -1,0 +1,35 @@
+-- Laws of the definitions: nothing here needs to be believed. Tests, masks and the ring; what an order does to a table; good tables stay good; what goes
+-- with the point of a port, and who holds the word; how long a port waits; what a passage costs.
+pub mod Tests
+pub mod Compute
+pub mod Mask
+pub mod Ring
+pub mod Rules
+pub mod Cases
+pub mod Own
+pub mod Grants
+pub mod After
+pub mod Ports
+pub mod Sound
+pub mod Settled
+pub mod KeptOwn
+pub mod KeptCopies
+pub mod KeptPorts
+pub mod KeptOrdered
+pub mod KeptStep
+pub mod Kept
+pub mod Life
+pub mod LifeAfter
+pub mod Changes
+pub mod Only
+pub mod Effects
+pub mod Holding
+pub mod Exclusion
+pub mod Reached
+pub mod Counting
+pub mod Interval
+pub mod Turn
+pub mod Waiting
+pub mod Budget
+pub mod Fees
+pub mod Passage

@@ -1,0 +1,74 @@
+-- A record whose working values are settled: it meets all rules where its numbers are within their bounds and its point is allowed.
+use mathlib.Core.Path.{_≡_, refl, _∙_, ap}
+use mathlib.Core.Bool.{Bool, true, false, not, _&&_, _||_, and-eq-true-iff, false≢true}
+use mathlib.Core.List.{List, [], _∷_}
+use Prim.Native.Nat.{ℕ, _≤_, zero-le}
+use native.Mathlib.Nat.{le-refl}
+use native.Mathlib.Omega.{arith}
+use lib.Dec.{eqb, ltb}
+use borrow.Author.Tests.{eqb-true}
+use Rattle.model.specs.declared.Port.{Port}
+use Rattle.model.specs.Points.{oneOf, seenPoints, candidatePoints, candidateSpinPoints, ownPlace, seenPlace, candidatePlace, candidateSpinPlace, kept, settled}
+use Rattle.model.specs.Good.{implies}
+use Rattle.model.specs.Laws.Sound.{Bounds, Enters, Fit}
+
+-- the points of a list are among those of another: a point of the first is one of the second
+among : List ℕ → List ℕ → Bool
+among [] ns = true
+among (m ∷ ms) ns = oneOf m ns && among ms ns
+
+included : (n : ℕ) (ms ns : List ℕ) → among ms ns ≡ true → oneOf n ms ≡ true → oneOf n ns ≡ true
+unfolding among oneOf
+included n [] ns a e = absurd (false≢true e)
+included n (m ∷ ms) ns a e = go (eqb n m) refl e (included n ms ns (both .1))
+  where
+    both : (oneOf m ns ≡ true) × (among ms ns ≡ true)
+    both = and-eq-true-iff (oneOf m ns) (among ms ns) .0 a
+
+    go : (b : Bool) → eqb n m ≡ b → (b || oneOf n ms) ≡ true → (oneOf n ms ≡ true → oneOf n ns ≡ true) → oneOf n ns ≡ true
+    go true q e f = ap (λ (i : ℕ). oneOf i ns) (eqb-true n m q) ∙ both .0
+    go false q e f = f e
+
+-- a working value that is kept where it has a place is at most what it was, and is 0 elsewhere
+kept-le : (b : Bool) (x : ℕ) → kept b x ≤ x
+kept-le true x = le-refl x
+kept-le false x = zero-le
+
+kept-rests : (b : Bool) (x : ℕ) → implies (not b) (eqb (kept b x) 0) ≡ true
+kept-rests true x = refl
+kept-rests false x = refl
+
+-- a spin that has a place only where its port has one stays at most that port's made; one that has a place at x5 stays above 0 there
+kept-spin : (a b : Bool) (made : ℕ → ℕ) (s o : ℕ) → (a ≡ true → b ≡ true) → s ≤ made o → kept a s ≤ made (kept b o)
+kept-spin true true made s o f h = h
+kept-spin true false made s o f h = absurd (false≢true (f refl))
+kept-spin false b made s o f h = zero-le
+
+kept-above : (a b : Bool) (s : ℕ) → (a ≡ true → b ≡ true) → implies a (ltb 0 s) ≡ true → implies a (ltb 0 (kept b s)) ≡ true
+kept-above true true s f h = h
+kept-above true false s f h = absurd (false≢true (f refl))
+kept-above false b s f h = refl
+
+-- so a settled record meets all rules
+pub settled-fit : (d : ℕ) (made : ℕ → ℕ) (bit : Bool) (p : Port) → Bounds d made p → Enters bit (p .point) (p .flag) (p .work .seenspin)
+    → Fit d made bit (settled p)
+unfolding settled ownPlace seenPlace candidatePlace candidateSpinPlace among oneOf
+settled-fit d made bit p b e =
+    let n = p .point in
+    let w = p .work in
+    let seen = kept-spin (seenPlace n) (seenPlace n) made (w .seenspin) (w .seenowner) (λ q. q) (b .seenspin) in
+    let inside = included n candidateSpinPoints candidatePoints refl in
+    let candidate = kept-spin (candidateSpinPlace n) (candidatePlace n) made (w .candidatespin) (w .candidate) inside (b .candidatespin) in
+    record {
+      bounds =
+          omega (arith, kept-le (ownPlace n) (w .own), kept-le (seenPlace n) (w .seenowner), kept-le (candidatePlace n) (w .candidate));
+      enters =
+          record {
+            named = e .named;
+            idle = e .idle;
+            clear = e .clear;
+            set = e .set;
+            setting = kept-above _ _ _ (included n (25 ∷ 35 ∷ 45 ∷ []) seenPoints refl) (e .setting);
+          };
+      rests = search kept-rests;
+    }

@@ -1,0 +1,89 @@
+-- Runs: orders, each a port and an event of any numbers, carried out one after the other; what the statements of demand 3 count along a run.
+use mathlib.Core.Bool.{Bool, true, false, cond, not, _&&_, _||_}
+use mathlib.Core.List.{List, [], _∷_}
+use Prim.Native.Nat.{ℕ, zero, suc, _+_, _*_}
+use lib.Dec.{eqb}
+use lib.ListN.{getD, drop}
+use Rattle.model.specs.declared.Table.{Table}
+use Rattle.model.specs.declared.Outcome.{Outcome}
+use Rattle.model.specs.Table.{CS, word, portAt}
+use Rattle.model.specs.Mask.{stands}
+use Rattle.model.specs.Points.{oneOf}
+use Rattle.model.specs.Step.{same}
+use Rattle.model.specs.Event.{numberOf, stepping, crash, event}
+
+pub record Order : Type 0 where
+  pub port : ℕ
+  pub event : ℕ
+
+abbrev pub order : ℕ → ℕ → Order
+order k e = record { port = k; event = e }
+
+-- what an order answers, and the table after it
+abbrev pub answered : Table → Order → Outcome
+answered t o = event t (o .port) (o .event)
+
+abbrev pub after : Table → Order → Table
+after t o = answered t o .table
+
+-- the table after a list of orders
+unfoldable pub ran : Table → List Order → Table
+ran t [] = t
+ran t (o ∷ os) = ran (after t o) os
+
+-- the orders that n pairs of numbers, port and event, stand for
+unfoldable pub orders : ℕ → List ℕ → List Order
+orders zero xs = []
+orders (suc n) xs = order (getD xs 0 0) (getD xs 1 0) ∷ orders n (drop 2 xs)
+
+-- what an order answers, in one number: the answer's, 256 times the cached and 65,536 times the distributed cost; and what a list of orders answers
+unfoldable pub codeOf : Outcome → ℕ
+codeOf o = numberOf (o .answer) + 256 * o .cached + 65536 * o .distributed
+
+unfoldable pub codes : Table → List Order → List ℕ
+codes t [] = []
+codes t (o ∷ os) = codeOf (answered t o) ∷ codes (after t o) os
+
+-- the order is carried out, and is such an event at port k
+unfoldable pub done : ℕ → ℕ → Table → Order → Bool
+done k e t o = eqb (o .port) k && eqb (o .event) e && eqb (numberOf (answered t o .answer)) 0
+
+-- the order is a step of port k carried out at one of these points
+unfoldable pub stepsAt : ℕ → List ℕ → Table → Order → Bool
+stepsAt k ns t o = done k stepping t o && oneOf (portAt t k .point) ns
+
+-- the order is a grant: a swap done at x3. It names the candidate
+unfoldable pub grants : Table → Order → Bool
+grants t o =
+    stepsAt (o .port) (23 ∷ 33 ∷ 43 ∷ []) t o
+    && same (t .shared .word) (word 0 (portAt t (o .port) .work .seenowner) (portAt t (o .port) .work .seenspin))
+
+abbrev pub candidateOf : Table → Order → ℕ
+candidateOf t o = portAt t (o .port) .work .candidate
+
+-- the grants that name others than k, up to the moment when bit k is cleared or a grant names k
+unfoldable pub passedOver : ℕ → Table → List Order → ℕ
+passedOver k t [] = 0
+passedOver k t (o ∷ os) =
+    cond (grants t o && eqb (candidateOf t o) k)
+    0
+    (cond (stands (after t o .shared .active) k) (cond (grants t o) 1 0 + passedOver k (after t o) os) 0)
+
+-- the cached and the distributed costs of port k's own steps, up to its step at 19 or its next crash
+unfoldable pub ends : ℕ → Table → Order → Bool
+ends k t o = done k crash t o || (done k stepping t o && eqb (portAt t k .point) 19)
+
+unfoldable pub cachedSum : ℕ → Table → List Order → ℕ
+cachedSum k t [] = 0
+cachedSum k t (o ∷ os) =
+    cond (done k stepping t o) (answered t o .cached) 0 + cond (ends k t o) 0 (cachedSum k (after t o) os)
+
+unfoldable pub distributedSum : ℕ → Table → List Order → ℕ
+distributedSum k t [] = 0
+distributedSum k t (o ∷ os) =
+    cond (done k stepping t o) (answered t o .distributed) 0 + cond (ends k t o) 0 (distributedSum k (after t o) os)
+
+-- no order of the list is a step of port k
+unfoldable pub stepless : ℕ → List Order → Bool
+stepless k [] = true
+stepless k (o ∷ os) = not (eqb (o .port) k && eqb (o .event) stepping) && stepless k os

@@ -1,0 +1,113 @@
+-- What is proved of the lock, for a reader who knows the definitions and no proof. A statement stands under a comment that says in words what it means
+-- and which sentence of the demands or of document 01 it is; the line below it names its proof.
+use mathlib.Core.Path.{_≡_, sym, subst, _∙_}
+use mathlib.Core.Bool.{true, false, _||_}
+use mathlib.Core.List.{List, [], _∷_}
+use Prim.Native.Nat.{ℕ, _*_, _≤_, _<_, _^_}
+use Rattle.model.specs.declared.Table.{Table}
+use Rattle.model.specs.declared.Outcome.{Outcome}
+use Rattle.model.specs.declared.Made.{Made}
+use Rattle.model.specs.Table.{room, Sized, CS, portAt, freshTable}
+use Rattle.model.specs.Mask.{stands}
+use Rattle.model.specs.Ring.{next, distance}
+use Rattle.model.specs.Good.{good}
+use Rattle.model.specs.Event.{numberOf, enter, stepping, crash, free, event, fresh}
+use Rattle.model.specs.Run.{Order, order, after, ran, done, stepsAt, passedOver, cachedSum, distributedSum, stepless}
+use Rattle.model.specs.Laws.Ring.{next-stands, next-nearest}
+use Rattle.model.specs.Laws.Cases.{refused-free, orders-free}
+use Rattle.model.specs.Laws.After.{fresh-sized}
+use Rattle.model.specs.Laws.Kept.{good-fresh, good-after, good-ran, room-fits}
+use Rattle.model.specs.Laws.Reached.{reached-sized, reached-safe, reached-d}
+use Rattle.model.specs.Laws.Only.{only-word, only-bit, only-go, only-status}
+use Rattle.model.specs.Laws.Exclusion.{one-critical, keeps-critical, returns-inside}
+use Rattle.model.specs.Laws.Grants.{done-steps}
+use Rattle.model.specs.Laws.Waiting.{waiting}
+use Rattle.model.specs.Laws.Passage.{passage}
+
+-- Demand 2, 'exactly the effect': two results that meet a promise are equal
+pub event-one : (t : Table) (k e : ℕ) (r s : Outcome) → r ≡ event t k e → s ≡ event t k e → r ≡ s
+event-one t k e r s p q = p ∙ sym q
+
+pub fresh-one : (d : ℕ) (r s : Made) → r ≡ fresh d → s ≡ fresh d → r ≡ s
+fresh-one d r s p q = p ∙ sym q
+
+-- 'An event carried out on a good table gives a good table'; a fresh table is good. (A refused event gives the table that it got.)
+pub fresh-good : (d : ℕ) → 1 ≤ d → d ≤ room → good (freshTable d) ≡ true
+fresh-good = good-fresh
+
+pub event-good : (t : Table) (k e : ℕ) → Sized t → good t ≡ true → good (event t k e .table) ≡ true
+event-good t k e = good-after t (order k e)
+
+-- 'A refused event gives costs 0 and the table it got'
+pub refused-nothing : (t : Table) (k e : ℕ) → (numberOf (event t k e .answer) ≡ 0 → ⊥) → event t k e ≡ free (event t k e .answer) t
+refused-nothing = refused-free
+
+-- 'Only S costs anything'
+pub only-steps-cost : (t : Table) (k e : ℕ) → (e ≡ stepping → ⊥) → (event t k e .cached ≡ 0) × (event t k e .distributed ≡ 0)
+only-steps-cost = orders-free
+
+-- 'Next(o, a) is the first port after o whose bit stands in a, counted upward and round the ring, o itself last': it is a port of the set, and no port
+-- of the set lies nearer after o
+pub next-first : (d o a : ℕ) → o < d → 0 < a → a < 2 ^ d
+    → (stands a (next d o a) ≡ true) × ((j : ℕ) → j < d → stands a j ≡ true → distance d o (next d o a) ≤ distance d o j)
+next-first d o a h p l = (next-stands h p l, λ j i s. next-nearest a h i s)
+
+-- From here on: the table reached from the fresh table of d ports by any orders, refused ones included
+abbrev pub reached : ℕ → List Order → Table
+reached d os = ran (freshTable d) os
+
+-- a port has the critical status
+abbrev pub Critical : Table → ℕ → Type 0
+Critical t k = portAt t k .status ≡ CS
+
+module _ (d : ℕ) (some : 1 ≤ d) (fits : d ≤ room) where
+  -- every table so reached is good, and has d ports
+  pub always-good : (os : List Order) → good (reached d os) ≡ true
+  always-good os = good-ran (freshTable d) os (fresh-sized d) (good-fresh d some fits)
+
+  -- Demand 3, 'never two ports with critical status'
+  pub exclusion : (os : List Order) (j k : ℕ) → Critical (reached d os) j → Critical (reached d os) k → j ≡ k
+  exclusion os = one-critical (reached d os) (reached-safe d os)
+
+  -- Demand 3, 'a port that crashed with it keeps it until it has left': a port with critical status keeps it under every order but its own step at 13
+  pub keeps : (os : List Order) (k : ℕ) (o : Order) → Critical (reached d os) k → stepsAt k (13 ∷ []) (reached d os) o ≡ false
+      → Critical (after (reached d os) o) k
+  keeps os k o = keeps-critical (reached d os) k o (reached-sized d os) (reached-safe d os)
+
+  -- 'and its next own step puts it inside': after a crash, and whatever orders follow that are no step of its own, its next step puts it at point 11
+  pub returns : (os : List Order) (k : ℕ) (more : List Order) → Critical (reached d os) k → stepless k more ≡ true
+      → portAt (after (ran (after (reached d os) (order k crash)) more) (order k stepping)) k .point ≡ 11
+  returns os k more = returns-inside good-after (reached d os) k more (reached-sized d os) (reached-safe d os) (always-good os)
+
+  -- 'a port whose bit is set waits for a bounded number of grants to others': from its step at 6 on, up to the moment when its bit is cleared or a grant
+  -- names it, fewer than D times D grants name others
+  pub waits : (os : List Order) (k : ℕ) (more : List Order) → done k stepping (reached d os) (order k stepping) ≡ true
+      → portAt (reached d os) k .point ≡ 6
+      → passedOver k (after (reached d os) (order k stepping)) more < d * d
+  waits os k more e p =
+      subst (λ (n : ℕ). passedOver k (after (reached d os) (order k stepping)) more < n * n) (reached-d d os)
+      (waiting good-after room-fits (reached d os) k more (reached-sized d os) (always-good os)
+      (done-steps (reached d os) (order k stepping) k e .port) e p)
+
+  -- 'From a fresh table no passage costs more than 33 in either model': from E or X at a port until its step at 19 or its next X
+  pub passage-limit : (os : List Order) (k : ℕ) (o : Order) (more : List Order)
+      → (done k enter (reached d os) o || done k crash (reached d os) o) ≡ true
+      → (cachedSum k (after (reached d os) o) more ≤ 33) × (distributedSum k (after (reached d os) o) more ≤ 33)
+  passage-limit os k o more = passage (reached d os) k o more (reached-sized d os) (reached-safe d os .life)
+
+  -- For whoever builds on the lock: which orders change the word, a port's bit in ACTIVE, its GO and its STATUS
+  pub word-changes : (os : List Order) (o : Order) → stepsAt (o .port) (17 ∷ 23 ∷ 33 ∷ 43 ∷ []) (reached d os) o ≡ false
+      → after (reached d os) o .shared .word ≡ reached d os .shared .word
+  word-changes os o = only-word (reached d os) o (reached-sized d os)
+
+  pub bit-changes : (os : List Order) (k : ℕ) (o : Order) → stepsAt k (6 ∷ 15 ∷ []) (reached d os) o ≡ false
+      → stands (after (reached d os) o .shared .active) k ≡ stands (reached d os .shared .active) k
+  bit-changes os k o = only-bit (reached d os) o (reached-sized d os) room-fits k
+
+  pub go-changes : (os : List Order) (k : ℕ) (o : Order) → stepsAt k (4 ∷ 18 ∷ []) (reached d os) o ≡ false
+      → portAt (after (reached d os) o) k .go ≡ portAt (reached d os) k .go
+  go-changes os k o = only-go (reached d os) o (reached-sized d os) k
+
+  pub status-changes : (os : List Order) (k : ℕ) (o : Order) → stepsAt k (10 ∷ 12 ∷ 13 ∷ 19 ∷ []) (reached d os) o ≡ false
+      → portAt (after (reached d os) o) k .status ≡ portAt (reached d os) k .status
+  status-changes os k o = only-status (reached d os) o (reached-sized d os) k
