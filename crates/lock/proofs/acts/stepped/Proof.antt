@@ -1,0 +1,26 @@
+use borrow.Author.Needs.{needs}
+use Rattle.lock.specs.Sight.{steppedOn}
+use Rattle.lock.proofs.acts.stepped.Statement.{statement}
+use Rattle.lock.proofs.acts.stepped.Tie as tie
+
+returns : tie.Need-returns
+unfolding steppedOn
+returns c =
+    rw (
+      c .before .settled .ensures,
+      c .before .before .before .before .old .ensures,
+      c .before .before .before .before .before .charge .ensures,
+      c .before .before .before .before .before .before .kept-copies .ensures,
+      c .before .before .before .before .before .before .before .before .step .ensures,
+    )
+
+pub stepped-spec : {M : Type 1} → statement M
+stepped-spec =
+    tie.close
+    (tie.spec
+    (λ c κs. search needs)
+    (λ c κs. search needs)
+    (λ c κs. search needs)
+    (λ c κs. search needs)
+    (λ c κs. search needs)
+    returns)

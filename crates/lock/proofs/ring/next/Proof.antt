@@ -1,0 +1,29 @@
+-- `lock::ring::next` meets its contract: the count of trailing zeros is the lowest port of the half that was chosen.
+use native.Mathlib.Nat.{pos-of-ne-zero}
+use native.Mathlib.Omega.{arith}
+use lib.Count.{trailing-le}
+use borrow.Author.Needs.{needs}
+use Prim.Native.Nat.{_/_, _^_}
+use Rattle.model.specs.Laws.Ring.{next-lowest, next-above}
+use Rattle.lock.proofs.ring.next.Statement.{statement}
+use Rattle.lock.proofs.ring.next.Tie as tie
+
+cast-result : tie.Need-cast-result
+cast-result c = omega (arith, trailing-le 64 (c .before .args .a))
+
+cast-result-2 : tie.Need-cast-result-2
+cast-result-2 c = omega (arith, trailing-le 64 (c .before .args .a / 2 ^ (c .before .args .o) / 2))
+
+add-result-2 : tie.Need-add-result-2
+add-result-2 c = omega (arith, trailing-le 64 (c .before .args .a / 2 ^ (c .before .args .o) / 2))
+
+returns : tie.Need-returns
+returns c = λ d h w l. next-lowest h w (c .before .pre .1) l (c .if1 .taken)
+
+returns-2 : tie.Need-returns-2
+returns-2 c = λ d h w l. next-above h w (c .before .pre .1) l (pos-of-ne-zero (c .if1 .left))
+
+pub next-spec : {M : Type 1} → statement M
+next-spec =
+    tie.close
+    (tie.spec (λ c. search needs) cast-result (λ c. search needs) cast-result-2 add-result-2 returns returns-2)

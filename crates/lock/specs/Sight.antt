@@ -1,0 +1,118 @@
+-- A step on what it can see: the shared part, its own port, and the port that it touches; and the table put together again.
+use mathlib.Core.Path.{_≡_, refl}
+use mathlib.Core.Bool.{Bool, true, false, cond, not, _&&_}
+use mathlib.Core.List.{List}
+use Prim.Native.Nat.{ℕ, _≤_, _<_, _^_}
+use lib.ListN.{set}
+use lib.Seq.{set-getD}
+use borrow.Author.Tests.{lt-leb, eq-eqb, ne-eqb}
+use Rattle.model.specs.declared.Port.{Port}
+use Rattle.model.specs.declared.Copies.{Copies}
+use Rattle.model.specs.declared.Shared.{Shared}
+use Rattle.model.specs.declared.Table.{Table}
+use Rattle.model.specs.declared.View.{View}
+use Rattle.model.specs.declared.Move.{Move}
+use Rattle.model.specs.declared.Touch.{Touch}
+use Rattle.model.specs.declared.Charge.{Charge}
+use Rattle.model.specs.declared.Left.{Left}
+use Rattle.model.specs.declared.Outcome.{Outcome}
+use Rattle.model.specs.declared.Answer.{Answer}
+use Rattle.model.specs.declared.Answer.the-variants.{Done}
+use Rattle.model.specs.Table.{most, noPort, noCopies, portIn, portAt, copiesAt, putPort}
+use Rattle.model.specs.Points.{pointOf, settled}
+use Rattle.model.specs.Step.{withValue, step}
+use Rattle.model.specs.Good.{good}
+use Rattle.model.specs.Cost.{old, charge}
+use Rattle.model.specs.Event.{numberOf, firstOf, refusals, refusal, ordered, sharedAfter, copiesAfter, touchOf, homeOf, viewOf, moveOf, chargeOf, marked, stepped, free, carried, eventGood, event}
+
+-- what an event may count on, of what it sees on a good table; and a step that no refusal stands against
+pub record Sound (v : View) : Type 0 where
+  pub ports : v .d ≤ 64
+  pub port : v .k < v .d
+  pub seen : v .own .work .seenowner < v .d
+  pub bits : v .active < 2 ^ (v .d)
+  pub made : v .own .made ≤ most
+
+pub record Sight (v : View) : Type 0 where
+  pub ports : v .d ≤ 64
+  pub port : v .k < v .d
+  pub seen : v .own .work .seenowner < v .d
+  pub bits : v .active < 2 ^ (v .d)
+  pub unworn : v .own .point ≡ 4 → v .own .made < most
+
+-- what port k sees, where q is the port that it touches, and what its step changes
+abbrev pub viewOn : Shared → ℕ → Port → Port → View
+viewOn s k p q = record { own = p; active = s .active; d = s .d; k = k; go = q .go; word = s .word }
+
+abbrev pub moveOn : Shared → ℕ → Port → Port → Move
+moveOn s k p q = step (pointOf (p .point)) (viewOn s k p q)
+
+-- what its step leaves
+abbrev pub leftBy : Touch → Port → Port → Move → Charge → Left
+leftBy u p q m x =
+    record {
+      own = settled (m .own);
+      shared = x .shared;
+      copies = x .copies;
+      sets = m .sets && not (old (u .cell) (p .work) q);
+      cached = x .cached;
+      distributed = x .distributed;
+    }
+
+unfoldable pub steppedOn : Touch → Shared → ℕ → Port → Port → Copies → Left
+steppedOn u s k p q c =
+    leftBy u p q (moveOn s k p q)
+    (charge u k (p .work) q (sharedAfter (moveOn s k p q) s) (copiesAfter (moveOn s k p q) c))
+
+-- the table and the costs from what the step leaves, where j is the port that it touched
+abbrev pub setAt : Bool → List Port → ℕ → List Port
+setAt b ps j = set ps j (withValue (cond b 1 (portIn ps j .value)) (portIn ps j))
+
+abbrev pub assembled : Table → ℕ → ℕ → Left → Outcome
+assembled t k j l =
+    record {
+      table =
+          record {
+            ports = setAt (l .sets) (set (t .ports) k (l .own)) j;
+            copies = set (t .copies) j (l .copies);
+            shared = l .shared;
+          };
+      cached = l .cached;
+      distributed = l .distributed;
+      answer = Done;
+    }
+
+-- a spin that is set, or left as it is
+set-at : (b : Bool) (ps : List Port) (j : ℕ) → setAt b ps j ≡ cond b (set ps j (withValue 1 (portIn ps j))) ps
+set-at true ps j = refl
+set-at false ps j = set-getD ps j noPort
+
+module _ (t : Table) (k : ℕ) where
+  assembled-step : assembled t k (homeOf t k)
+      (steppedOn (touchOf t k) (t .shared) k (portAt t k) (portAt t (homeOf t k)) (copiesAt t (homeOf t k)))
+      ≡ stepped t k
+  unfolding stepped marked steppedOn chargeOf moveOf viewOf
+  assembled-step =
+      rw
+      (set-at
+      (moveOf t k .sets && not (old (touchOf t k .cell) (portAt t k .work) (portAt t (homeOf t k))))
+      (set (t .ports) k (settled (moveOf t k .own)))
+      (homeOf t k))
+
+-- an event on a good table at a port that there is: refused, an order, or a step
+module _ (t : Table) (k e : ℕ) (g : good t ≡ true) (h : k < t .shared .d) where
+  pub refused : (a : Answer) → a ≡ firstOf (refusals e (portAt t k)) → (numberOf a ≡ 0 → ⊥) → event t k e ≡ free a t
+  unfolding event eventGood refusal
+  refused a p n = rw (g, lt-leb (t .shared .d) k h, ← p, ne-eqb (numberOf a) 0 n)
+
+  pub obeyed : (a : Answer) → a ≡ firstOf (refusals e (portAt t k)) → numberOf a ≡ 0 → (e ≡ 2 → ⊥)
+      → event t k e ≡ free Done (putPort t k (ordered e (portAt t k)))
+  unfolding event eventGood refusal carried
+  obeyed a p z n = rw (g, lt-leb (t .shared .d) k h, ← p, eq-eqb (numberOf a) 0 z, ne-eqb e 2 n)
+
+  pub moved : (a : Answer) → a ≡ firstOf (refusals e (portAt t k)) → numberOf a ≡ 0 → e ≡ 2
+      → (j : ℕ) (l : Left) → j ≡ homeOf t k → l ≡ steppedOn (touchOf t k) (t .shared) k (portAt t k) (portAt t j) (copiesAt t j)
+      → assembled t k j l ≡ event t k e
+  unfolding event eventGood refusal carried
+  moved a p z s j l x y =
+      rw (g, lt-leb (t .shared .d) k h, ← p, eq-eqb (numberOf a) 0 z, eq-eqb e 2 s) (rw (y, x) (assembled-step t k))

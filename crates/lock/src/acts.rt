@@ -1,0 +1,74 @@
+// What a step leaves, on what it can see: the shared part, its own port, and the port that it touches.
+use crate::costs;
+use crate::steps;
+use model::Copies;
+use model::Left;
+use model::Port;
+use model::Shared;
+use model::Touch;
+use model::View;
+use rules::points;
+ghost use mathlib.Core.Path.{_≡_};
+ghost use mathlib.Core.Bool.{cond};
+ghost use Rattle.model.specs.Step.{withValue};
+ghost use Rattle.lock.specs.Sight.{Sight, viewOn, steppedOn};
+
+// The copies of a spin, with none of one that is new.
+fn kept_copies(new: bool, m: u64) -> u64
+    ensures { λ r. ⌜ r ≡ cond new 0 m ⌝ }
+{
+    if new { 0 } else { m }
+}
+
+// What the step of port k leaves; q is the port that it touches, and c that port's copy sets.
+pub fn stepped(u: Touch, s: Shared, k: u64, own: Port, q: Port, c: Copies) -> Left
+    requires { ⌜ Sight (viewOn s k own q) ⌝ }
+    ensures { λ r. ⌜ r ≡ steppedOn u s k own q c ⌝ }
+{
+    let word = s.word;
+    let m = steps::step(View {
+        own,
+        active: s.active,
+        d: s.d,
+        k,
+        go: q.go,
+        word,
+    });
+    let moved = m.word;
+    let after = Shared {
+        active: m.active,
+        activecopies: s.activecopies,
+        wordcopies: s.wordcopies,
+        d: s.d,
+        word: moved,
+    };
+    let held = Copies {
+        status: c.status,
+        go: c.go,
+        spin: kept_copies(m.makes, c.spin),
+    };
+    let x = costs::charge(u, k, own.work, q, after, held);
+    let cell = u.cell;
+    let fits = !costs::old(cell, own.work, q);
+    let shared = x.shared;
+    let copies = x.copies;
+    Left {
+        own: points::settled(m.own),
+        shared,
+        copies,
+        sets: m.sets & fits,
+        cached: x.cached,
+        distributed: x.distributed,
+    }
+}
+
+// A port whose latest spin is set to 1, or left as it is.
+pub fn marked(sets: bool, p: Port) -> Port
+    ensures { λ r. ⌜ r ≡ withValue (cond sets 1 (p .value)) p ⌝ }
+{
+    let mut q = p;
+    if sets {
+        q.value = 1;
+    }
+    q
+}
