@@ -1,18 +1,19 @@
 -- A run of one order is an event: its answer and both costs from the one number that the run gives.
 use mathlib.Core.Path.{_≡_, refl, sym, ap, _∙_}
-use mathlib.Core.Bool.{Bool, cond}
+use mathlib.Core.Bool.{Bool, true, false, cond}
 use mathlib.Core.List.{List, [], _∷_}
-use Prim.Native.Nat.{ℕ, _+_, _*_, _/_, _%_, _<_, min}
+use Prim.Native.Nat.{ℕ, _+_, _*_, _/_, _%_, _<_}
 use native.Mathlib.Omega.{arith}
 use lib.Dec.{eqb}
-use lib.ListN.{length, getD}
-use lib.Seq.{sets}
+use lib.ListN.{getD}
 use Rattle.model.specs.declared.Table.{Table}
 use Rattle.model.specs.declared.Outcome.{Outcome}
+use Rattle.model.specs.declared.Made.{Made}
 use Rattle.model.specs.declared.Answer.{Answer}
 use Rattle.model.specs.declared.Answer.the-variants.{Done, BadTable, NoSuchPort, NoSuchEvent, Busy, Worn, NotInside, Idle, Inside, BadSize, ShortRoom, BadImage}
-use Rattle.model.specs.Event.{numberOf, event}
-use Rattle.model.specs.Run.{Order, order, ran, orders, codeOf, codes}
+use Rattle.model.specs.Event.{numberOf, free, event}
+use Rattle.model.specs.Good.{good}
+use Rattle.model.specs.Run.{Order, ran, orders, codeOf, codes, ordersFor, run, runAnswers}
 use Rattle.model.specs.Laws.Fees.{event-cost}
 
 -- the answer that a number stands for
@@ -81,15 +82,25 @@ decoded o h =
 
 -- the one order of a port and an event, with one place for its answer
 abbrev pub single : ℕ → ℕ → List Order
-single k e = orders (min (length (k ∷ e ∷ []) / 2) (length {A = ℕ} (0 ∷ []))) (k ∷ e ∷ [])
+single k e = ordersFor (k ∷ e ∷ []) (1 ∷ [])
+
+bad-event : (t : Table) (k e : ℕ) → good t ≡ false → event t k e ≡ free BadTable t
+unfolding event
+bad-event t k e h = rw h
+
+-- what stands in that place is the event's code: BAD TABLE, or what the run put there
+one-code : (t : Table) (k e : ℕ) (g : Bool) → good t ≡ g → (run t (single k e) .table ≡ event t k e .table) × (getD (runAnswers t (single k e) (1 ∷ [])) 0 0 ≡ codeOf (event t k e))
+unfolding ran codes codeOf orders run runAnswers
+one-code t k e true h = (rw h, rw h)
+one-code t k e false h = rw (bad-event t k e h) (rw h, rw h)
 
 -- what a run of one order gives and answers is the event's outcome
-pub run-of-one : (t : Table) (k e : ℕ) (r : Table) (a : List ℕ) (n : Answer)
-    → r ≡ ran t (single k e)
-    → a ≡ sets (0 ∷ []) 0 (codes t (single k e))
+pub run-of-one : (t : Table) (k e : ℕ) (r : Made) (a : List ℕ) (n : Answer)
+    → r ≡ run t (single k e)
+    → a ≡ runAnswers t (single k e) (1 ∷ [])
     → n ≡ answerOf (getD a 0 0 % 256)
-    → record { table = r; cached = getD a 0 0 / 256 % 256; distributed = getD a 0 0 / 65536; answer = n } ≡ event t k e
-unfolding ran codes orders
+    → record { table = r .table; cached = getD a 0 0 / 256 % 256; distributed = getD a 0 0 / 65536; answer = n } ≡ event t k e
 run-of-one t k e r a n p q h =
     let d = decoded (event t k e) (omega (arith, event-cost t k e .0)) in
-    rw (p, h, q, sym (d .0), sym (d .1), sym (d .2))
+    let o = one-code t k e (good t) refl in
+    rw (h, q, p, o .0, o .1, sym (d .0), sym (d .1), sym (d .2))

@@ -1,13 +1,11 @@
 -- A run's loop: what is still to do is what the definitions say of the whole run.
 use mathlib.Core.Path.{_≡_, refl, sym, ap, _∙_}
-use mathlib.Core.Bool.{Bool, true, false, cond, _&&_, true≢false}
+use mathlib.Core.Bool.{true, false}
 use mathlib.Core.List.{List, [], _∷_}
 use Prim.Native.Nat.{ℕ, zero, suc, _+_, _-_, _*_, _/_, _≤_, _<_, min}
 use native.Mathlib.Nat.{lt-of-lt-of-le, min-le-left, min-le-right, sub-zero}
 use native.Mathlib.Numerals.{add-one}
 use native.Mathlib.Omega.{arith}
-use borrow.Author.Tests.{ltb-false}
-use lib.Dec.{ltb}
 use lib.ListN.{length, getD, set, drop, length-set}
 use lib.Seq.{sets, getD-drop, drop-drop}
 use Rattle.model.specs.declared.Port.{Port}
@@ -17,39 +15,23 @@ use Rattle.model.specs.declared.Table.{Table}
 use Rattle.model.specs.declared.Touch.{Touch}
 use Rattle.model.specs.declared.Outcome.{Outcome}
 use Rattle.model.specs.declared.Answer.{Answer}
-use Rattle.model.specs.declared.Answer.the-variants.{BadTable, NoSuchPort}
+use Rattle.model.specs.declared.Answer.the-variants.{Done, BadTable}
 use Rattle.model.specs.Table.{Sized}
 use Rattle.model.specs.Good.{good}
 use Rattle.model.specs.Event.{numberOf, sharedAfter, copiesAfter, free, event}
-use Rattle.model.specs.Run.{Order, order, answered, after, ran, orders, codeOf, codes}
+use Rattle.model.specs.Run.{Order, order, answered, after, ran, orders, codeOf, codes, run, runAnswers}
 use Rattle.model.specs.Laws.After.{after-sized}
 use Rattle.model.specs.Laws.Kept.{good-after}
 use Rattle.model.specs.Laws.Fees.{charge-cost}
 use Rattle.lock.specs.Sight.{moveOn, steppedOn}
 use Rattle.lock.specs.Ready.{no-port}
 
--- an order on a table that is not good, or at a port that there isn't, answers 1 or 2 and changes nothing
-nothing : (t : Table) (k e : ℕ) (sound : Bool) → good t ≡ sound → (sound && ltb k (t .shared .d)) ≡ false
-    → event t k e ≡ free (cond sound NoSuchPort BadTable) t
-unfolding event
-nothing t k e true g h = no-port t k e g (ltb-false k (t .shared .d) h)
-nothing t k e false g h = rw g
-
-pub unanswered : (t : Table) (k e : ℕ) (sound : Bool) → good t ≡ sound → (sound && ltb k (t .shared .d)) ≡ false
-    → (t ≡ event t k e .table) × (cond sound 2 1 ≡ codeOf (event t k e))
+-- an order at a port that there isn't answers 2 and changes nothing
+pub unanswered : (t : Table) (k e : ℕ) → good t ≡ true → t .shared .d ≤ k → (t ≡ event t k e .table) × (2 ≡ codeOf (event t k e))
 unfolding codeOf
-unanswered t k e sound g h =
-    let n = nothing t k e sound g h in
-    (ap (λ (r : Outcome). r .table) (sym n), its-code sound ∙ ap codeOf (sym n))
-  where
-    its-code : (b : Bool) → cond b 2 1 ≡ codeOf (free (cond b NoSuchPort BadTable) t)
-    its-code true = refl
-    its-code false = refl
-
--- a good table stays good, a bad one as it is
-good-stays : (t : Table) (o : Order) (sound : Bool) → Sized t → good t ≡ sound → good (after t o) ≡ sound
-good-stays t o true s g = good-after t o s g
-good-stays t o false s g = ap (λ (r : Outcome). good (r .table)) (nothing t (o .port) (o .event) false g refl) ∙ g
+unanswered t k e g h =
+    let n = no-port t k e g h in
+    (ap (λ (r : Outcome). r .table) (sym n), ap codeOf (sym n))
 
 -- the code of an answer without costs is its number; that of one that is DONE has its costs alone
 pub free-code : (a : Answer) (t : Table) → numberOf a ≡ codeOf (free a t)
@@ -86,29 +68,29 @@ next-order n i xs h =
     rw (e, getD-drop (2 * i) xs 0 0, getD-drop (2 * i) xs 1 0, drop-drop 2 (2 * i) xs, a, b)
 
 -- the loop of a run over the orders xs, from the table t₀ and the answers a₀, before turn i with the table t and the answers a
-pub record Running (xs : List ℕ) (n : ℕ) (t₀ : Table) (a₀ : List ℕ) (sound : Bool) (i : ℕ) (t : Table) (a : List ℕ) : Type 0 where
+pub record Running (xs : List ℕ) (n : ℕ) (t₀ : Table) (a₀ : List ℕ) (i : ℕ) (t : Table) (a : List ℕ) : Type 0 where
   pub upto : i ≤ n
   pub sized : Sized t
-  pub check : good t ≡ sound
+  pub good-yet : good t ≡ true
   pub long : length a ≡ length a₀
   pub table : ran t (orders (n - i) (drop (2 * i) xs)) ≡ ran t₀ (orders n xs)
   pub text : sets a i (codes t (orders (n - i) (drop (2 * i) xs))) ≡ sets a₀ 0 (codes t₀ (orders n xs))
 
-module _ (xs : List ℕ) (n : ℕ) (t₀ : Table) (a₀ : List ℕ) (sound : Bool) where
-  pub begins : Sized t₀ → good t₀ ≡ sound → Running xs n t₀ a₀ sound 0 t₀ a₀
-  begins s g = record { upto = omega arith; sized = s; check = g; long = refl; table = rw (sub-zero n); text = rw (sub-zero n) }
+module _ (xs : List ℕ) (n : ℕ) (t₀ : Table) (a₀ : List ℕ) where
+  pub begins : Sized t₀ → good t₀ ≡ true → Running xs n t₀ a₀ 0 t₀ a₀
+  begins s g = record { upto = omega arith; sized = s; good-yet = g; long = refl; table = rw (sub-zero n); text = rw (sub-zero n) }
 
-  pub turns : (i : ℕ) (t u : Table) (a : List ℕ) (c : ℕ) → i < n → Running xs n t₀ a₀ sound i t a
+  pub turns : (i : ℕ) (t u : Table) (a : List ℕ) (c : ℕ) → i < n → Running xs n t₀ a₀ i t a
       → u ≡ event t (getD xs (2 * i) 0) (getD xs (2 * i + 1) 0) .table
       → c ≡ codeOf (event t (getD xs (2 * i) 0) (getD xs (2 * i + 1) 0))
-      → Running xs n t₀ a₀ sound (i + 1) u (set a i c)
+      → Running xs n t₀ a₀ (i + 1) u (set a i c)
   unfolding ran codes
   turns i t u a c h r p q =
       let o = order (getD xs (2 * i) 0) (getD xs (2 * i + 1) 0) in
       record {
         upto = omega arith;
         sized = rw p (after-sized t o (r .sized));
-        check = rw p (good-stays t o sound (r .sized) (r .check));
+        good-yet = rw p (good-after t o (r .sized) (r .good-yet));
         long = length-set a i c ∙ r .long;
         table = rw p (rw (next-order n i xs h) at (r .table));
         text =
@@ -119,9 +101,15 @@ module _ (xs : List ℕ) (n : ℕ) (t₀ : Table) (a₀ : List ℕ) (sound : Boo
             ∙ (rw (next-order n i xs h) at (r .text)));
       }
 
-  pub ends : (i : ℕ) (t : Table) (a : List ℕ) → n ≤ i → Running xs n t₀ a₀ sound i t a
-      → (t ≡ ran t₀ (orders n xs)) × (a ≡ sets a₀ 0 (codes t₀ (orders n xs)))
-  unfolding ran codes orders
-  ends i t a h r =
+  pub ends : (i : ℕ) (t : Table) (a : List ℕ) → good t₀ ≡ true → n ≤ i → Running xs n t₀ a₀ i t a
+      → (record { table = t; answer = Done } ≡ run t₀ (orders n xs)) × (a ≡ runAnswers t₀ (orders n xs) a₀)
+  unfolding ran codes orders run runAnswers
+  ends i t a g h r =
       let e : n - i ≡ 0 = omega arith in
-      (rw e at (r .table), rw e at (r .text))
+      (rw (g, ← (r .table), e), rw g (rw e at (r .text)))
+
+-- a bad table is refused, and nothing is changed
+pub refuses : (t : Table) (os : List Order) (a : List ℕ) → good t ≡ false
+    → (record { table = t; answer = BadTable } ≡ run t os) × (a ≡ runAnswers t os a)
+unfolding run runAnswers
+refuses t os a g = (rw g, rw g)

@@ -9,6 +9,8 @@ ghost use mathlib.Core.Path.{_≡_};
 ghost use Rattle.model.specs.Event as Event;
 ghost use Rattle.lock.specs.Single.{answerOf};
 
+const BAD_TABLE: u64 = 1;
+
 // The fresh table of D ports; D not 1 to the room is BAD SIZE with the fresh table of D = 1.
 pub fn fresh(d: u64) -> Made
     ensures { λ r. ⌜ r ≡ Event.fresh d ⌝ }
@@ -36,14 +38,15 @@ fn named(number: u64) -> Answer
     }
 }
 
-// An event on any table, at any port, of any number: a run of one order.
+// An event on any table, at any port, of any number: a run of one order. BAD TABLE stands for its answer until the run answers it.
 pub fn event(table: Table, port: u64, event: u64) -> Outcome
     ensures { λ r. ⌜ r ≡ Event.event table port event ⌝ }
 {
     let orders = [port, event];
-    let mut answers: [u64; 1] = [0];
-    let after = runs::run(table, &orders, &mut answers);
+    let mut answers = [BAD_TABLE];
+    let r = runs::run(table, &orders, &mut answers);
     let code = answers[0];
+    let after = r.table;
     Outcome {
         table: after,
         cached: code / 256 % 256,

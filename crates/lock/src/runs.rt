@@ -1,17 +1,18 @@
 // Runs: orders carried out on one table, with one check of the table at the start.
 use crate::acts;
 use crate::costs;
+use model::Answer;
+use model::Made;
 use model::Table;
 use rules::answers;
 use rules::answers::STEP;
 use rules::good;
 use rules::points;
 ghost use mathlib.Core.Path.{_≡_};
-ghost use mathlib.Core.Bool.{cond};
-ghost use Prim.Native.Nat.{ℕ, _+_, _*_, _/_, _<_, min};
-ghost use lib.ListN.{length};
-ghost use lib.Seq.{sets};
+ghost use Prim.Native.Nat.{ℕ, _+_, _*_, _<_, min};
 ghost use Rattle.model.specs.Run as Run;
+
+const NO_SUCH_PORT: u64 = 2;
 
 fn least(a: usize, b: usize) -> usize
     ensures { λ r. ⌜ r ≡ min a b ⌝ }
@@ -27,27 +28,25 @@ fn code(cached: u64, distributed: u64) -> u64
     256 * cached + 65536 * distributed
 }
 
-// NO SUCH PORT on a good table, else BAD TABLE.
-fn unanswered(sound: bool) -> u64
-    ensures { λ r. ⌜ r ≡ cond sound 2 1 ⌝ }
-{
-    if sound { 2 } else { 1 }
-}
-
 // Carries out as many orders as there are pairs of port and event and places for their answers; answers[i] is what order i answers: its number, 256 times
-// its cached and 65,536 times its distributed cost. Gives the table after the last.
-pub fn run(mut table: Table, orders: &[u64], answers: &mut [u64]) -> Table
-    ensures { λ r. ⌜ r ≡ Run.ran table (Run.orders (min (length (now (orders .entry)) / 2) (length (now (answers .entry)))) (now (orders .entry))) ⌝ }
-    ensures { λ r. ⌜ now (answers .exit) ≡ sets (now (answers .entry)) 0 (Run.codes table (Run.orders (min (length (now (orders .entry)) / 2) (length (now (answers .entry)))) (now (orders .entry)))) ⌝ }
+// its cached and 65,536 times its distributed cost. Gives the table after the last. A bad table is refused, and nothing is changed.
+pub fn run(mut table: Table, orders: &[u64], answers: &mut [u64]) -> Made
+    ensures { λ r. ⌜ r ≡ Run.run table (Run.ordersFor (now (orders .entry)) (now (answers .entry))) ⌝ }
+    ensures { λ r. ⌜ now (answers .exit) ≡ Run.runAnswers table (Run.ordersFor (now (orders .entry)) (now (answers .entry))) (now (answers .entry)) ⌝ }
 {
+    if !good::good(table) {
+        return Made {
+            table,
+            answer: Answer::BadTable,
+        };
+    }
     let n = least(orders.len() / 2, answers.len());
-    let sound = good::good(table);
     let mut i: usize = 0;
     while i < n {
         let port = orders[2 * i];
         let event = orders[2 * i + 1];
-        if !(sound & (port < table.shared.d)) {
-            answers[i] = unanswered(sound);
+        if table.shared.d <= port {
+            answers[i] = NO_SUCH_PORT;
             i += 1;
             continue;
         }
@@ -81,5 +80,8 @@ pub fn run(mut table: Table, orders: &[u64], answers: &mut [u64]) -> Table
         answers[i] = code(l.cached, l.distributed);
         i += 1;
     }
-    table
+    Made {
+        table,
+        answer: Answer::Done,
+    }
 }

@@ -1,14 +1,18 @@
 -- Runs: orders, each a port and an event of any numbers, carried out one after the other; what the statements of demand 3 count along a run.
 use mathlib.Core.Bool.{Bool, true, false, cond, not, _&&_, _||_}
 use mathlib.Core.List.{List, [], _∷_}
-use Prim.Native.Nat.{ℕ, zero, suc, _+_, _*_}
+use Prim.Native.Nat.{ℕ, zero, suc, _+_, _*_, _/_, min}
 use lib.Dec.{eqb}
-use lib.ListN.{getD, drop}
+use lib.ListN.{length, getD, drop}
+use lib.Seq.{sets}
 use Rattle.model.specs.declared.Table.{Table}
 use Rattle.model.specs.declared.Outcome.{Outcome}
+use Rattle.model.specs.declared.Made.{Made}
+use Rattle.model.specs.declared.Answer.the-variants.{Done, BadTable}
 use Rattle.model.specs.Table.{CS, word, portAt}
 use Rattle.model.specs.Mask.{stands}
 use Rattle.model.specs.Points.{oneOf}
+use Rattle.model.specs.Good.{good}
 use Rattle.model.specs.Step.{same}
 use Rattle.model.specs.Event.{numberOf, stepping, crash, event}
 
@@ -43,6 +47,17 @@ codeOf o = numberOf (o .answer) + 256 * o .cached + 65536 * o .distributed
 unfoldable pub codes : Table → List Order → List ℕ
 codes t [] = []
 codes t (o ∷ os) = codeOf (answered t o) ∷ codes (after t o) os
+
+-- a run with one check of the table, at its start. A bad table is refused: it stays as it is, and so do the places for the answers. On a good one the
+-- run carries out as many orders as there are pairs of numbers and places, and puts what each answers in its place
+abbrev pub ordersFor : List ℕ → List ℕ → List Order
+ordersFor xs places = orders (min (length xs / 2) (length places)) xs
+
+unfoldable pub run : Table → List Order → Made
+run t os = cond (good t) (record { table = ran t os; answer = Done }) (record { table = t; answer = BadTable })
+
+unfoldable pub runAnswers : Table → List Order → List ℕ → List ℕ
+runAnswers t os places = cond (good t) (sets places 0 (codes t os)) places
 
 -- the order is carried out, and is such an event at port k
 unfoldable pub done : ℕ → ℕ → Table → Order → Bool

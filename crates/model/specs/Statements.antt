@@ -12,7 +12,7 @@ use Rattle.model.specs.Mask.{stands}
 use Rattle.model.specs.Ring.{next, distance}
 use Rattle.model.specs.Good.{good}
 use Rattle.model.specs.Event.{numberOf, enter, stepping, crash, free, event, fresh}
-use Rattle.model.specs.Run.{Order, order, after, ran, done, stepsAt, passedOver, cachedSum, distributedSum, stepless}
+use Rattle.model.specs.Run.{Order, order, after, ran, run, runAnswers, done, stepsAt, passedOver, cachedSum, distributedSum, stepless}
 use Rattle.model.specs.Laws.Ring.{next-stands, next-nearest}
 use Rattle.model.specs.Laws.Cases.{refused-free, orders-free}
 use Rattle.model.specs.Laws.After.{fresh-sized}
@@ -30,6 +30,12 @@ event-one t k e r s p q = p ∙ sym q
 
 pub fresh-one : (d : ℕ) (r s : Made) → r ≡ fresh d → s ≡ fresh d → r ≡ s
 fresh-one d r s p q = p ∙ sym q
+
+pub run-one : (t : Table) (os : List Order) (r s : Made) → r ≡ run t os → s ≡ run t os → r ≡ s
+run-one t os r s p q = p ∙ sym q
+
+pub answers-one : (t : Table) (os : List Order) (places r s : List ℕ) → r ≡ runAnswers t os places → s ≡ runAnswers t os places → r ≡ s
+answers-one t os places r s p q = p ∙ sym q
 
 -- 'An event carried out on a good table gives a good table'; a fresh table is good. (A refused event gives the table that it got.)
 pub fresh-good : (d : ℕ) → 1 ≤ d → d ≤ room → good (freshTable d) ≡ true

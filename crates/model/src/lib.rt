@@ -141,7 +141,7 @@ pub struct Outcome {
     pub answer: Answer,
 }
 
-// What `fresh` answers.
+// What `fresh` and a run answer: a table, and DONE or a refusal.
 pub struct Made {
     pub table: Table,
     pub answer: Answer,

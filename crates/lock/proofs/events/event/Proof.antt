@@ -6,14 +6,14 @@ use Rattle.lock.proofs.events.event.Tie as tie
 returns : tie.Need-returns
 returns c =
     run-of-one
-    (c .before .before .before .before .before .args .table)
-    (c .before .before .before .before .before .args .port)
-    (c .before .before .before .before .before .args .event)
+    (c .before .before .before .before .before .before .args .table)
+    (c .before .before .before .before .before .before .args .port)
+    (c .before .before .before .before .before .before .args .event)
     _
     _
     _
-    (c .before .before .run .ensures .0)
-    (c .before .before .run .ensures .1)
+    (c .before .before .before .run .ensures .0)
+    (c .before .before .before .run .ensures .1)
     (c .named .ensures)
 
 pub event-spec : {M : Type 1} → statement M

@@ -1,12 +1,11 @@
 -- `lock::runs::run` meets its contract: before each turn, what is still to do gives the table and the answers of the whole run. A turn is what the
 -- definition of `event` says on a good table, which stays good. It is long because a turn has four ways to go, each with its places in the lists.
 use mathlib.Core.Path.{_≡_, refl, sym, ap, _∙_}
-use mathlib.Core.Bool.{true, and-eq-true-iff}
+use mathlib.Core.Bool.{true}
 use Prim.Native.Nat.{ℕ, _+_, _-_, _*_, _<_}
 use native.Mathlib.Omega.{arith}
 use borrow.Author.Needs.{needs}
-use borrow.Author.Tests.{ltb-true, not-true, not-false}
-use lib.Dec.{ltb}
+use borrow.Author.Tests.{not-true, not-false}
 use lib.ListN.{length, length-map, getD}
 use Rattle.model.specs.declared.Table.{Table}
 use Rattle.model.specs.declared.Touch.{Touch}
@@ -18,26 +17,26 @@ use Rattle.model.specs.Event.{numberOf, refusals, firstOf, touchOf, homeOf, vie
 use Rattle.model.specs.Run.{codeOf}
 use Rattle.lock.specs.Sight.{steppedOn, assembled, refused, obeyed, moved}
 use Rattle.lock.specs.Ready.{port-fits, home-fits, sound, sight}
-use Rattle.lock.specs.Turns.{Running, begins, turns, ends, places, unanswered, free-code, done-code, costs-small}
+use Rattle.lock.specs.Turns.{Running, begins, turns, ends, refuses, places, unanswered, free-code, done-code, costs-small}
 use Rattle.lock.proofs.runs.run.Statement.{statement}
 use Rattle.lock.proofs.runs.run.Tie as tie
 
 abbrev Inv-loop : tie.InvT-loop
-Inv-loop orders answers₀ table₀ n sound i₀ answers table i = Running orders n table₀ answers₀ sound i table answers
+Inv-loop orders answers₀ table₀ n i₀ answers table i = Running orders n table₀ answers₀ i table answers
 
 abbrev μ-loop : tie.MeasureT-loop
-μ-loop orders answers₀ table₀ n sound i₀ answers table i = n - i
+μ-loop orders answers₀ table₀ n i₀ answers table i = n - i
 
 -- a turn's order and its answer have their places
 module _ (c : tie.In-loop Inv-loop μ-loop) where
-  turn-fits : (2 * c .before .loop .i + 1 < length (c .before .before .before .before .before .before .args .orders .now)) × (c .before .loop .i < length (c .before .before .before .before .before .before .args .answers .now))
-  turn-fits = places _ _ _ _ (c .before .before .before .least .ensures) (c .loop-test .taken)
+  turn-fits : (2 * c .before .loop .i + 1 < length (c .before .before .before .before .before .before .before .args .orders .now)) × (c .before .loop .i < length (c .before .before .before .before .before .before .before .args .answers .now))
+  turn-fits = places _ _ _ _ (c .before .before .least .ensures) (c .loop-test .taken)
 
-  orders-fit : length (c .before .before .before .before .before .before .args .orders .now) * 8 < 9223372036854775808
-  orders-fit = c .before .before .before .before .before .before .good .1 .0 .1
+  orders-fit : length (c .before .before .before .before .before .before .before .args .orders .now) * 8 < 9223372036854775808
+  orders-fit = c .before .before .before .before .before .before .before .good .1 .0 .1
 
-  answers-fit : length (c .before .before .before .before .before .before .args .answers .now) * 8 < 9223372036854775808
-  answers-fit = c .before .before .before .before .before .before .good .1 .1 .0 .1
+  answers-fit : length (c .before .before .before .before .before .before .before .args .answers .now) * 8 < 9223372036854775808
+  answers-fit = c .before .before .before .before .before .before .before .good .1 .1 .0 .1
 
 -- the table's lists are as long as their types say
 sized-table : (c : tie.Start Inv-loop μ-loop) → Sized (c .args .t1)
@@ -48,34 +47,35 @@ sized-table c =
       copies = sym (length-map (c .args .t1 .copies) _) ∙ c .good .0 .1 .1 .1 .0 .1 .0 .1;
     }
 
+-- the run goes on only with a good table
+started : (c : tie.Else1 Inv-loop μ-loop) → good (c .before .before .before .before .args .t1) ≡ true
+started c = sym (c .before .good2 .ensures) ∙ not-false _ (c .if1 .left)
+
 -- the table before a turn, and the turn's port and event
-abbrev table-at : tie.Else1 Inv-loop μ-loop → Table
+abbrev table-at : tie.Else2 Inv-loop μ-loop → Table
 table-at c = c .before .before .before .before .loop .table
 
-abbrev port-at : tie.Else1 Inv-loop μ-loop → ℕ
-port-at c = getD (c .before .before .before .before .before .before .before .before .before .args .orders .now) (2 * c .before .before .before .before .loop .i) 0
+abbrev port-at : tie.Else2 Inv-loop μ-loop → ℕ
+port-at c = getD (c .before .before .before .before .before .before .before .before .before .before .args .orders .now) (2 * c .before .before .before .before .loop .i) 0
 
-abbrev event-at : tie.Else1 Inv-loop μ-loop → ℕ
-event-at c = getD (c .before .before .before .before .before .before .before .before .before .args .orders .now) (2 * c .before .before .before .before .loop .i + 1) 0
+abbrev event-at : tie.Else2 Inv-loop μ-loop → ℕ
+event-at c = getD (c .before .before .before .before .before .before .before .before .before .before .args .orders .now) (2 * c .before .before .before .before .loop .i + 1) 0
 
 -- the table is good, and there is such a port
-module _ (c : tie.Else1 Inv-loop μ-loop) where
-  both : (c .before .before .before .before .before .good2 .result ≡ true) × (ltb (port-at c) (table-at c .shared .d) ≡ true)
-  both = and-eq-true-iff _ _ .0 (not-false _ (c .if1 .left))
-
+module _ (c : tie.Else2 Inv-loop μ-loop) where
   good-table : good (table-at c) ≡ true
-  good-table = c .before .before .before .before .loop .inv .check ∙ both .0
+  good-table = c .before .before .before .before .loop .inv .good-yet
 
   port-below : port-at c < table-at c .shared .d
-  port-below = ltb-true _ _ (both .1)
+  port-below = c .if2 .left
 
   place : port-at c < 16
   unfolding room
   place = port-fits _ _ good-table port-below
 
 -- no refusal stands against the event
-done : (c : tie.Else2 Inv-loop μ-loop) → numberOf (c .before .before .refusal .result) ≡ 0
-done c = sym (c .before .number .ensures) ∙ c .if2 .left
+done : (c : tie.Else3 Inv-loop μ-loop) → numberOf (c .before .before .refusal .result) ≡ 0
+done c = sym (c .before .number .ensures) ∙ c .if3 .left
 
 -- the touched port is the one of the definitions, and its place
 module _ (c : tie.After-home Inv-loop μ-loop) where
@@ -101,7 +101,7 @@ after c =
     let s = c .before .before .before .before .before .before in
     let k = c .before .before .before .before .before .before .before .before .before .before .before in
     moved (table-at k) (port-at k) (event-at k) (good-table k) (port-below k) (s .before .before .before .refusal .result) (s .before .before .before .refusal .ensures) (done (s .before))
-    (s .if3 .left)
+    (s .if4 .left)
     (h .home .result)
     (c .stepped .result)
     (touches h)
@@ -113,7 +113,7 @@ after c =
     (h .before .touch-at .ensures))
 
 loop-holds : tie.Need-loop-holds Inv-loop μ-loop
-loop-holds c = begins _ _ _ _ _ (sized-table (c .before .before .before .before)) (sym (c .good2 .ensures))
+loop-holds c = begins _ _ _ _ (sized-table (c .before .before .before .before .before)) (started (c .before))
 
 mul-port : tie.Need-mul-port Inv-loop μ-loop
 mul-port c = omega (arith, turn-fits c, orders-fit c)
@@ -137,23 +137,23 @@ shared-slice-read-event : tie.Need-shared-slice-read-event Inv-loop μ-loop
 shared-slice-read-event c = omega (arith, turn-fits (c .before .before), orders-fit (c .before .before))
 
 mul-answers : tie.Need-mul-answers Inv-loop μ-loop
-mul-answers c = omega (arith, turn-fits (c .before .before .before .before), answers-fit (c .before .before .before .before))
+mul-answers c = omega (arith, turn-fits (c .before .before .before), answers-fit (c .before .before .before))
 
 slice-write-answers : tie.Need-slice-write-answers Inv-loop μ-loop
-slice-write-answers c = omega (arith, turn-fits (c .before .before .before .before) .1, c .before .before .before .before .before .loop .inv .long)
+slice-write-answers c = omega (arith, turn-fits (c .before .before .before) .1, c .before .before .before .before .loop .inv .long)
 
 add-i : tie.Need-add-i Inv-loop μ-loop
-add-i c = omega (arith, turn-fits (c .before .before .before .before), answers-fit (c .before .before .before .before))
+add-i c = omega (arith, turn-fits (c .before .before .before), answers-fit (c .before .before .before))
 
 loop-less : tie.Need-loop-less Inv-loop μ-loop
-loop-less c = omega (arith, c .before .before .before .before .loop-test .taken)
+loop-less c = omega (arith, c .before .before .before .loop-test .taken)
 
 loop-again : tie.Need-loop-again Inv-loop μ-loop
 loop-again c =
-    let k = c .before .before .before .before in
+    let k = c .before .before .before in
     let l = k .before .loop in
-    let e = unanswered (l .table) _ _ _ (l .inv .check) (not-true _ (c .before .if1 .taken)) in
-    turns _ _ _ _ _ (l .i) (l .table) _ (l .answers) _ (k .loop-test .taken) (l .inv) (e .0) (c .unanswered .ensures ∙ e .1)
+    let e = unanswered (l .table) _ _ (l .inv .good-yet) (c .if2 .taken) in
+    turns _ _ _ _ (l .i) (l .table) _ (l .answers) _ (k .loop-test .taken) (l .inv) (e .0) (e .1)
 
 mul-own : tie.Need-mul-own Inv-loop μ-loop
 mul-own c = omega (arith, place c)
@@ -181,8 +181,8 @@ loop-again-2 c =
     let r = c .before .before .refusal in
     let e =
     refused (table-at g) (port-at g) (event-at g) (good-table g) (port-below g) (r .result) (r .ensures)
-    (λ z. c .if2 .taken (c .before .number .ensures ∙ z)) in
-    turns _ _ _ _ _ (l .i) (l .table) _ (l .answers) _ (k .loop-test .taken) (l .inv)
+    (λ z. c .if3 .taken (c .before .number .ensures ∙ z)) in
+    turns _ _ _ _ (l .i) (l .table) _ (l .answers) _ (k .loop-test .taken) (l .inv)
     (ap (λ (o : Outcome). o .table) (sym e))
     (c .before .number .ensures ∙ free-code (r .result) (l .table) ∙ ap codeOf (sym e))
 
@@ -211,8 +211,8 @@ loop-again-3 c =
     let l = k .before .loop in
     let g = c .before .before .before .before .before .before in
     let r = c .before .before .before .before .refusal in
-    let e = obeyed (table-at g) (port-at g) (event-at g) (good-table g) (port-below g) (r .result) (r .ensures) (done (c .before .before)) (c .before .if3 .taken) in
-    turns _ _ _ _ _ (l .i) (l .table) _ (l .answers) _ (k .loop-test .taken) (l .inv)
+    let e = obeyed (table-at g) (port-at g) (event-at g) (good-table g) (port-below g) (r .result) (r .ensures) (done (c .before .before)) (c .before .if4 .taken) in
+    turns _ _ _ _ (l .i) (l .table) _ (l .answers) _ (k .loop-test .taken) (l .inv)
     (rw (c .ordered .ensures) (ap (λ (o : Outcome). o .table) (sym e)))
     (ap codeOf (sym e))
 
@@ -235,7 +235,7 @@ stepped-requires c κs =
     let s = c .before .before .before .before .before in
     let k = c .before .before .before .before .before .before .before .before .before .before in
     sight _ (rw (touches h) (sound _ _ (good-table k) (port-below k)))
-    (ap (λ (e : ℕ). numberOf (firstOf (refusals e (portAt (table-at k) (port-at k))))) (sym (s .if3 .left))
+    (ap (λ (e : ℕ). numberOf (firstOf (refusals e (portAt (table-at k) (port-at k))))) (sym (s .if4 .left))
     ∙ ap numberOf (sym (s .before .before .before .refusal .ensures))
     ∙ done (s .before))
 
@@ -285,7 +285,7 @@ loop-again-4 : tie.Need-loop-again-4 Inv-loop μ-loop
 loop-again-4 c =
     let k = c .before .before .before .before .before .before .before .before .before .before .before .before .before .before .before .before .before .before .before .before in
     let l = k .before .loop in
-    turns _ _ _ _ _ (l .i) (l .table) _ (l .answers) _ (k .loop-test .taken) (l .inv)
+    turns _ _ _ _ (l .i) (l .table) _ (l .answers) _ (k .loop-test .taken) (l .inv)
     (rw (c .before .marked .ensures) (ap (λ (o : Outcome). o .table) (after (c .before .before .before .before .before .before))))
     (c .code .ensures ∙ done-code _ refl ∙ ap codeOf (after (c .before .before .before .before .before .before)))
 
@@ -293,7 +293,10 @@ same-length : tie.Need-same-length Inv-loop μ-loop
 same-length c = c .before .loop .inv .long
 
 returns : tie.Need-returns Inv-loop μ-loop
-returns c = rw (← (c .before .before .before .least .ensures)) (ends _ _ _ _ _ _ _ _ (c .loop-test .left) (c .before .loop .inv))
+returns c = refuses _ _ _ (sym (c .before .good2 .ensures) ∙ not-true _ (c .if1 .taken))
+
+returns-2 : tie.Need-returns-2 Inv-loop μ-loop
+returns-2 c = rw (← (c .before .before .least .ensures)) (ends _ _ _ _ _ _ _ (started (c .before .before .before)) (c .loop-test .left) (c .before .loop .inv))
 
 pub run-spec : {M : Type 1} → statement M
 run-spec =
@@ -302,6 +305,7 @@ run-spec =
     Inv-loop
     μ-loop
     (λ c κs. search needs)
+    returns
     (λ c κs. search needs)
     loop-holds
     mul-port
@@ -311,7 +315,6 @@ run-spec =
     add-event
     mul-event-2
     shared-slice-read-event
-    (λ c κs. search needs)
     mul-answers
     slice-write-answers
     add-i
@@ -357,4 +360,4 @@ run-spec =
     loop-less-4
     loop-again-4
     same-length
-    returns)
+    returns-2)
