@@ -1,0 +1,69 @@
+//! Good tables, rule by rule in document 01's order.
+
+use crate::points::{candidate_has, candidate_spin_has, named, own_spin_has, seen_has};
+use crate::status;
+use crate::table::{Copies, Port, Table, ROOM};
+
+/// Whether a table is good.
+pub fn good(t: &Table) -> bool {
+    let d = t.d as usize;
+    // D is among those named; every later rule indexes ports below D.
+    if !(1..=ROOM).contains(&d) {
+        return false;
+    }
+    let above = beyond(d);
+    t.word.taken <= 1
+        && t.active & above == 0
+        && t.active_copies & above == 0
+        && t.word_copies & above == 0
+        && (t.word.owner as usize) < d
+        && t.word.spin <= t.ports[t.word.owner as usize].made
+        && (0..d).all(|k| port_good(t, k, above))
+        && t.ports[d..].iter().all(|p| *p == Port::default())
+        && t.copies[d..].iter().all(|c| *c == Copies::default())
+}
+
+/// The bits at `d` or above.
+fn beyond(d: usize) -> u64 {
+    u64::MAX.checked_shl(d as u32).unwrap_or(0)
+}
+
+/// The rules that speak of a port, for port `k` below D.
+fn port_good(t: &Table, k: usize, above: u64) -> bool {
+    let (p, c) = (&t.ports[k], &t.copies[k]);
+    let d = t.d;
+    let own_bit = t.active >> k & 1;
+    // Points and codes are among those named.
+    named(p.point)
+        && p.status <= status::ABORT
+        // Flags and latest values are 0 or 1.
+        && p.flag <= 1
+        && p.value <= 1
+        // No bit at D or above stands anywhere.
+        && c.status & above == 0
+        && c.go & above == 0
+        && c.spin & above == 0
+        // Owners and candidates are below D.
+        && p.seen_owner < d
+        && p.candidate < d
+        // Every spin number is at most its port's made.
+        && p.go <= p.made
+        && p.own_spin <= p.made
+        && p.seen_spin <= t.ports[p.seen_owner as usize].made
+        && p.candidate_spin <= t.ports[p.candidate as usize].made
+        // A port at point 0 has flag 0.
+        && (p.point != 0 || p.flag == 0)
+        // A port at 6 has its own bit in ACTIVE clear, and one at 15 has it set.
+        && (p.point != 6 || own_bit == 0)
+        && (p.point != 15 || own_bit == 1)
+        // Made 0 goes with latest value 0, and with an empty copy set for that spin.
+        && (p.made != 0 || p.value == 0)
+        && (p.made != 0 || c.spin == 0)
+        // A port at 25, 35 or 45 has a seen spin above 0.
+        && (!matches!(p.point, 25 | 35 | 45) || p.seen_spin > 0)
+        // Every working value is 0 outside its points.
+        && (own_spin_has(p.point) || p.own_spin == 0)
+        && (seen_has(p.point) || (p.seen_owner == 0 && p.seen_spin == 0))
+        && (candidate_has(p.point) || p.candidate == 0)
+        && (candidate_spin_has(p.point) || p.candidate_spin == 0)
+}

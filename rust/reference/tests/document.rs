@@ -1,0 +1,134 @@
+//! Document 01's sample lines.
+
+use reference::number::*;
+use reference::order::*;
+use reference::{event, fresh, good, listing::listing, next, read, write, Table, LONGEST};
+
+/// Steps port `port` to `point`: how many steps, and their costs.
+fn walk(t: &mut Table, port: u64, point: u8) -> (u64, u64, u64) {
+    let mut sum = (0, 0, 0);
+    while t.ports[port as usize].point != point {
+        let (number, cached, distributed) = event(t, port, STEP);
+        assert_eq!(number, DONE);
+        sum = (sum.0 + 1, sum.1 + cached, sum.2 + distributed);
+    }
+    sum
+}
+
+#[test]
+fn next_round_the_ring() {
+    assert_eq!(next(0, 0b1), 0);
+    assert_eq!(next(0, 0b11), 1);
+    assert_eq!(next(3, 0b110), 1);
+    assert_eq!(next(1, 0b1001), 3);
+    assert_eq!(next(15, 1 << 15), 15);
+    assert_eq!(next(63, 1 << 63), 63);
+    assert_eq!(next(63, 0b10), 1);
+}
+
+#[test]
+fn next_is_the_first_after_the_owner() {
+    for owner in 0..8u8 {
+        for set in 1..256u64 {
+            let first = (1..=8).map(|i| (owner + i) % 8).find(|k| set >> k & 1 == 1);
+            assert_eq!(Some(next(owner, set)), first);
+        }
+    }
+}
+
+#[test]
+fn refusals_of_the_sample_lines() {
+    let (number, mut t) = fresh(2);
+    assert_eq!(number, DONE);
+    assert_eq!(event(&mut t, 0, STEP), (IDLE, 0, 0));
+    assert_eq!(event(&mut t, 0, ENTER), (DONE, 0, 0));
+    assert_eq!(t.ports[0].point, 1);
+    assert_eq!(event(&mut t, 0, ENTER), (BUSY, 0, 0));
+    assert_eq!(event(&mut t, 2, ENTER), (NO_SUCH_PORT, 0, 0));
+    assert_eq!(event(&mut t, u64::MAX, ENTER), (NO_SUCH_PORT, 0, 0));
+    assert_eq!(event(&mut t, 0, 6), (NO_SUCH_EVENT, 0, 0));
+    assert_eq!(event(&mut t, 0, 0), (NO_SUCH_EVENT, 0, 0));
+    for d in [0, 17, 256, 257, u64::MAX] {
+        assert_eq!(fresh(d), (BAD_SIZE, fresh(1).1));
+    }
+}
+
+#[test]
+fn the_lowest_refusal_is_given() {
+    let (_, mut t) = fresh(2);
+    assert_eq!(event(&mut t, 2, 6), (NO_SUCH_PORT, 0, 0));
+    t.word.taken = 2;
+    let bad = t;
+    assert_eq!(event(&mut t, 2, 6), (BAD_TABLE, 0, 0));
+    assert_eq!(t, bad);
+    assert_eq!(write(&t, &mut []), (BAD_TABLE, 0));
+}
+
+#[test]
+fn alone_at_two_ports() {
+    let (_, mut t) = fresh(2);
+    event(&mut t, 0, ENTER);
+    assert_eq!(walk(&mut t, 0, 11), (14, 9, 6));
+    assert_eq!(event(&mut t, 0, STEP), (INSIDE, 0, 0));
+    assert_eq!(event(&mut t, 0, LEAVE), (DONE, 0, 0));
+    assert_eq!(walk(&mut t, 0, 0), (13, 6, 8));
+}
+
+#[test]
+fn the_sample_listing() {
+    let want = "1 E 0 0 1 0 0.0.0 0 0\n2 S 0 0 2 0 0.0.0 1 0\n3 A 0 0 2 0 0.0.0 0 0\n4 X 0 0 1 0 0.0.0 0 0\n\
+                5 L 0 6 1 0 0.0.0 0 0\n6 S 0 0 2 0 0.0.0 0 0\n7 S 0 0 12 0 0.0.0 0 0\n";
+    let got = listing(b"D 2\nE 0\nS 0\nA 0\nX 0\nL 0\nS 0\nS 0\n");
+    assert_eq!(got, want.as_bytes());
+    assert_eq!(listing(b""), b"BAD 0\n");
+    assert_eq!(listing(b"D 1\nE 0"), b"BAD 1\n");
+    assert_eq!(listing(b"D 17\n"), b"BAD 0\n");
+}
+
+#[test]
+fn a_run_does_not_depend_on_the_pieces() {
+    let input = b"D 3\nE 0\nE 2\nS 2\nE 999\nS  0\nE 1\n";
+    for size in 1..input.len() {
+        let mut run = reference::listing::Run::new();
+        let mut out = Vec::new();
+        for piece in input.chunks(size) {
+            run.feed(piece, &mut out);
+        }
+        run.finish(&mut out);
+        assert_eq!(out, listing(input));
+        assert!(run.over());
+    }
+}
+
+#[test]
+fn images_have_the_named_lengths() {
+    let mut room = [0xAA; LONGEST + 1];
+    for d in 1..=16 {
+        let (_, t) = fresh(d);
+        let (number, length) = write(&t, &mut room);
+        assert_eq!((number, length as u64), (DONE, 30 + 22 * d));
+        assert!(room[length..].iter().all(|b| *b == 0xAA));
+        assert_eq!(read(&room[..length]), (DONE, t));
+        assert_eq!(read(&room[..length + 1]), (BAD_IMAGE, fresh(1).1));
+        assert_eq!(read(&room[..length - 1]), (BAD_IMAGE, fresh(1).1));
+        let mut short = vec![0x55; length - 1];
+        assert_eq!(write(&t, &mut short), (SHORT_ROOM, 0));
+        assert!(short.iter().all(|b| *b == 0x55));
+    }
+    assert_eq!(LONGEST, 382);
+    assert_eq!(read(&[]), (BAD_IMAGE, fresh(1).1));
+}
+
+#[test]
+fn every_event_of_a_long_run_keeps_the_table_good() {
+    let mut seed = 0x9E37_79B9_7F4A_7C15u64;
+    let (_, mut t) = fresh(4);
+    for _ in 0..20_000 {
+        seed ^= seed << 13;
+        seed ^= seed >> 7;
+        seed ^= seed << 17;
+        let order = [STEP, STEP, STEP, STEP, STEP, ENTER, LEAVE, CRASH, CALL_OFF];
+        event(&mut t, seed >> 8 & 3, order[(seed >> 20) as usize % 9]);
+        assert!(good(&t));
+    }
+}
