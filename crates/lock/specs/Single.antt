@@ -55,7 +55,7 @@ answer-of-number ShortRoom = refl
 answer-of-number BadImage = refl
 
 -- an answer's number fits one digit
-number-small : (a : Answer) → numberOf a < 256
+pub number-small : (a : Answer) → numberOf a < 256
 number-small Done = omega arith
 number-small BadTable = omega arith
 number-small NoSuchPort = omega arith

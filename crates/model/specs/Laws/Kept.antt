@@ -1,20 +1,24 @@
 -- A good table stays good: a fresh table is good, and every order, and so every run, makes a good table of a good one.
 use mathlib.Core.Path.{_≡_, refl, _∙_}
-use mathlib.Core.Bool.{true}
+use mathlib.Core.Bool.{true, _&&_, and-eq-true-iff}
 use mathlib.Core.List.{List, [], _∷_}
 use Prim.Native.Nat.{ℕ, _≤_}
 use native.Mathlib.Omega.{arith}
-use lib.Dec.{lit≤}
+use borrow.Author.Tests.{leb-true}
+use lib.Dec.{leb, lit≤}
 use lib.Pow.{pow-pos}
 use lib.ListN.{getD-replicate}
 use Rattle.model.specs.declared.Table.{Table}
+use Rattle.model.specs.declared.Made.{Made}
 use Rattle.model.specs.Table.{room, noPort, noCopies, freshTable, Sized}
 use Rattle.model.specs.Points.{oneOf, ownPlace, seenPlace, candidatePlace, candidateSpinPlace}
-use Rattle.model.specs.Good.{named, portEmpty, good}
+use Rattle.model.specs.Good.{named, sizeGood, portEmpty, good}
+use Rattle.model.specs.Event.{fresh}
 use Rattle.model.specs.Run.{Order, after, ran}
+use Rattle.model.specs.Laws.Tests.{split}
 use Rattle.model.specs.Laws.Rules.{shared-rules}
 use Rattle.model.specs.Laws.Cases.{after-case}
-use Rattle.model.specs.Laws.After.{after-sized, after-d}
+use Rattle.model.specs.Laws.After.{fresh-sized, after-sized, after-d}
 use Rattle.model.specs.Laws.Sound.{sound-good}
 use Rattle.model.specs.Laws.KeptOrdered.{ordered-good}
 use Rattle.model.specs.Laws.KeptStep.{step-good}
@@ -23,6 +27,10 @@ use Rattle.model.specs.Laws.KeptStep.{step-good}
 pub room-fits : room ≤ 64
 unfolding room
 room-fits = lit≤ tt
+
+one-fits : 1 ≤ room
+unfolding room
+one-fits = lit≤ tt
 
 -- a fresh table is good
 pub good-fresh : (d : ℕ) → 1 ≤ d → d ≤ room → good (freshTable d) ≡ true
@@ -39,6 +47,18 @@ good-fresh d some fits =
       copies = λ k h. rw (getD-replicate room k noCopies noCopies (omega arith)) (omega (arith, pow-pos d));
       empty = λ k l h. rw (getD-replicate room k noPort noPort h, getD-replicate room k noCopies noCopies h);
     })
+
+-- whatever number it is asked for, `fresh` gives a good table, with its lists as long as the room
+pub made-good : (d : ℕ) → good (fresh d .table) ≡ true
+unfolding fresh sizeGood
+made-good d =
+    split (λ (m : Made). good (m .table) ≡ true) (leb 1 d && leb d room) _ _
+    (λ h. let p = and-eq-true-iff (leb 1 d) (leb d room) .0 h in good-fresh d (leb-true 1 d (p .0)) (leb-true d room (p .1)))
+    (λ h. good-fresh 1 (lit≤ tt) one-fits)
+
+pub made-sized : (d : ℕ) → Sized (fresh d .table)
+unfolding fresh
+made-sized d = split (λ (m : Made). Sized (m .table)) (sizeGood d) _ _ (λ h. fresh-sized d) (λ h. fresh-sized 1)
 
 -- every order makes a good table of a good one
 pub good-after : (t : Table) (o : Order) → Sized t → good t ≡ true → good (after t o) ≡ true
