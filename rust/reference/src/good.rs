@@ -4,7 +4,7 @@ use crate::points::{candidate_has, candidate_spin_has, named, own_spin_has, seen
 use crate::status;
 use crate::table::{Copies, Port, Table, ROOM};
 
-/// Whether a table is good.
+/// Whether a table is good: the rules as they speak of D and the shared words, of each port, and of the room above D.
 pub fn good(t: &Table) -> bool {
     let d = t.d as usize;
     // D is among those named; every later rule indexes ports below D.
@@ -12,13 +12,17 @@ pub fn good(t: &Table) -> bool {
         return false;
     }
     let above = beyond(d);
+    // Taken is 0 or 1.
     t.word.taken <= 1
+        // No bit at D or above stands anywhere.
         && t.active & above == 0
         && t.active_copies & above == 0
         && t.word_copies & above == 0
+        // Owners are below D, and a spin number is at most its port's made.
         && (t.word.owner as usize) < d
         && t.word.spin <= t.ports[t.word.owner as usize].made
         && (0..d).all(|k| port_good(t, k, above))
+        // Room kept for ports at or above D is all 0.
         && t.ports[d..].iter().all(|p| *p == Port::default())
         && t.copies[d..].iter().all(|c| *c == Copies::default())
 }

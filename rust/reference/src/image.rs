@@ -76,6 +76,12 @@ pub fn write(t: &Table, room: &mut [u8]) -> (u64, usize) {
     if room.len() < length(d) {
         return (SHORT_ROOM, 0);
     }
+    (DONE, encode(t, room))
+}
+
+/// Puts the image of a table whose D has room, good or not; gives its length.
+pub(crate) fn encode(t: &Table, room: &mut [u8]) -> usize {
+    let d = t.d as usize;
     let mut s = Sink { room, at: 0 };
     s.put(1, u64::from(VERSION));
     s.put(1, u64::from(t.d));
@@ -107,7 +113,7 @@ pub fn write(t: &Table, room: &mut [u8]) -> (u64, usize) {
         s.put(2, c.go);
         s.put(2, c.spin);
     }
-    (DONE, s.at)
+    s.at
 }
 
 /// Reads an image: the number and the table.

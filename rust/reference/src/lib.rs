@@ -4,6 +4,7 @@
 
 #![deny(missing_docs)]
 
+pub mod boundary;
 mod costs;
 mod events;
 mod good;

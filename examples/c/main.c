@@ -1,0 +1,53 @@
+/* A lone passage at D = 2 from C: port 0 enters, comes inside, leaves, and is idle again.
+ *
+ *     cc -I include examples/c/main.c -L DIRECTORY -lcabi -o lone && ./lone
+ *
+ * where DIRECTORY holds libcabi.a. */
+
+#include <stdio.h>
+#include <stdlib.h>
+#include <yarvelow.h>
+
+/* Steps a port until an event other than a step is due; counts its steps and sums up their costs. */
+static void walk(uint8_t *image, size_t length, uint64_t port, const char *what) {
+    unsigned steps = 0, cached = 0, distributed = 0;
+    for (;;) {
+        uint64_t answer = yarvelow_event(image, length, port, YARVELOW_STEP);
+        unsigned number = yarvelow_number_of(answer);
+        if (number == YARVELOW_INSIDE || number == YARVELOW_IDLE) {
+            break;
+        }
+        if (number != YARVELOW_DONE) {
+            fprintf(stderr, "step refused: %u\n", number);
+            exit(1);
+        }
+        steps++;
+        cached += yarvelow_cached_of(answer);
+        distributed += yarvelow_distributed_of(answer);
+    }
+    printf("%s: %u steps, %u cached, %u distributed\n", what, steps, cached, distributed);
+}
+
+/* An event that must be carried out. */
+static void must(uint8_t *image, size_t length, uint64_t port, uint64_t event) {
+    unsigned number = yarvelow_number_of(yarvelow_event(image, length, port, event));
+    if (number != YARVELOW_DONE) {
+        fprintf(stderr, "event %u refused: %u\n", (unsigned)event, number);
+        exit(1);
+    }
+}
+
+int main(void) {
+    /* A controller keeps these bytes in memory that outlives a restart, and looks at them with yarvelow_check when it is back. */
+    uint8_t image[YARVELOW_IMAGE(2)];
+    uint64_t answer = yarvelow_fresh(2, image, sizeof image);
+    if (yarvelow_number_of(answer) != YARVELOW_DONE) {
+        return 1;
+    }
+    size_t length = yarvelow_length_of(answer);
+    must(image, length, 0, YARVELOW_ENTER);
+    walk(image, length, 0, "in");
+    must(image, length, 0, YARVELOW_LEAVE);
+    walk(image, length, 0, "out");
+    return yarvelow_check(image, length) == YARVELOW_DONE ? 0 : 1;
+}

@@ -1,0 +1,77 @@
+/* The lock engine of document 01 from C: the table of one lock with D ports, kept as an image in memory of yours.
+ *
+ * Link with the archive libcabi.a. Every function answers on every input: bytes of any kind, any length, any number. None
+ * keeps a pointer, allocates, or touches memory outside the buffers that it is lent. The buffers of one call must not overlap.
+ *
+ * An answer carries a number in its lowest eight bits: 0 when done, else why it was refused. */
+
+#ifndef YARVELOW_H
+#define YARVELOW_H
+
+#include <stddef.h>
+#include <stdint.h>
+
+#ifdef __cplusplus
+extern "C" {
+#endif
+
+/* The most ports that a table has, and the length of an image of d ports. */
+#define YARVELOW_PORTS 16
+#define YARVELOW_IMAGE(d) (30 + 22 * (size_t)(d))
+#define YARVELOW_IMAGE_MOST YARVELOW_IMAGE(YARVELOW_PORTS)
+
+/* Events. Only a step costs anything. */
+enum yarvelow_order {
+    YARVELOW_ENTER = 1,    /* an idle port begins a passage */
+    YARVELOW_STEP = 2,     /* at most one memory operation */
+    YARVELOW_CRASH = 3,    /* the port forgets where it was and what it held in mind */
+    YARVELOW_CALL_OFF = 4, /* the port is to give up waiting */
+    YARVELOW_LEAVE = 5     /* a port that is inside begins to leave */
+};
+
+/* Numbers of an answer. */
+enum yarvelow_number {
+    YARVELOW_DONE = 0,
+    YARVELOW_BAD_TABLE = 1,     /* the image holds a table that isn't good */
+    YARVELOW_NO_SUCH_PORT = 2,  /* port at or above D */
+    YARVELOW_NO_SUCH_EVENT = 3, /* event not 1 to 5 */
+    YARVELOW_BUSY = 4,          /* enter, and the port is in a passage */
+    YARVELOW_WORN = 5,          /* the port has made all its spins */
+    YARVELOW_NOT_INSIDE = 6,    /* leave, and the port isn't inside */
+    YARVELOW_IDLE = 7,          /* step, crash or call off of an idle port */
+    YARVELOW_INSIDE = 8,        /* step of a port that is inside */
+    YARVELOW_BAD_SIZE = 9,      /* a fresh table with D not 1 to 16 */
+    YARVELOW_SHORT_ROOM = 10,   /* the buffer is too short for the image */
+    YARVELOW_BAD_IMAGE = 11     /* length, version, D or contents of the image wrong */
+};
+
+/* The parts of an answer: the number; of yarvelow_fresh, the image's length; of an event, both costs. */
+static inline unsigned yarvelow_number_of(uint64_t answer) { return (unsigned)(answer & 255); }
+static inline size_t yarvelow_length_of(uint64_t answer) { return (size_t)(answer >> 8); }
+static inline unsigned yarvelow_cached_of(uint64_t answer) { return (unsigned)(answer >> 8 & 255); }
+static inline unsigned yarvelow_distributed_of(uint64_t answer) { return (unsigned)(answer >> 16); }
+
+/* Writes the image of a fresh table of d ports at the start of room. Answers number + 256 * the image's length. Refused
+ * (BAD_SIZE, then SHORT_ROOM) it leaves every byte, and the length is 0; done, it leaves the bytes after the image. */
+uint64_t yarvelow_fresh(uint64_t d, uint8_t *room, size_t length);
+
+/* Looks whether an image can be used. Answers DONE, BAD_IMAGE, or BAD_TABLE. */
+uint64_t yarvelow_check(const uint8_t *image, size_t length);
+
+/* Carries out one event on an image where it stands. Answers number + 256 * cached cost + 65536 * distributed cost.
+ * Refused, for the image first (BAD_IMAGE, BAD_TABLE), then for the event (the lowest number that applies), it costs nothing
+ * and leaves every byte. */
+uint64_t yarvelow_event(uint8_t *image, size_t length, uint64_t port, uint64_t event);
+
+/* Carries out events one after the other on an image, with one check of it at the start. orders holds pairs: port, event,
+ * port, event, ..; orders_length counts numbers, two for each pair. answers[i] becomes what yarvelow_event would answer to
+ * pair i. As many pairs are carried out as are whole in orders and have a place in answers. Answers DONE, whatever became of
+ * single events; or BAD_IMAGE or BAD_TABLE, and then every byte and every answer stays. */
+uint64_t yarvelow_run(uint8_t *image, size_t length, const uint64_t *orders, size_t orders_length, uint64_t *answers,
+                      size_t answers_length);
+
+#ifdef __cplusplus
+}
+#endif
+
+#endif

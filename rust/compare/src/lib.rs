@@ -1,0 +1,14 @@
+//! Compares an engine behind the boundary's four functions with the reference: random good tables, random schedules with crashes
+//! and call-offs, runs, images whole and damaged, at every D.
+//!
+//! The numbers come from a seed, so a difference that is told can be tried again.
+
+#![deny(missing_docs)]
+
+mod engine;
+pub mod generate;
+pub mod harness;
+mod random;
+
+pub use engine::{Archive, Engine, Reference};
+pub use random::Random;

@@ -1,0 +1,55 @@
+//! The boundary's four functions over images in lent buffers, in safe Rust: what the archive must answer.
+
+use crate::events::{event_unchecked, fresh as fresh_table};
+use crate::image::{encode, read, write};
+use crate::number::DONE;
+
+/// Number, cached and distributed cost as one answer.
+fn packed((number, cached, distributed): (u64, u64, u64)) -> u64 {
+    number + 256 * cached + 65536 * distributed
+}
+
+/// Writes the image of a fresh table at the start of `room`: number + 256 * the image's length.
+/// Refused (9, then 10), the room stays as it is and the length is 0.
+pub fn fresh(d: u64, room: &mut [u8]) -> u64 {
+    let (number, table) = fresh_table(d);
+    if number != DONE {
+        return number;
+    }
+    let (number, length) = write(&table, room);
+    number + 256 * length as u64
+}
+
+/// The reader's number.
+pub fn check(image: &[u8]) -> u64 {
+    read(image).0
+}
+
+/// Carries out an event on an image where it stands: number + 256 * cached + 65536 * distributed.
+/// Refused, by the reader or by the event, every byte stays.
+pub fn event(image: &mut [u8], port: u64, event: u64) -> u64 {
+    let (number, mut table) = read(image);
+    if number != DONE {
+        return number;
+    }
+    let answer = event_unchecked(&mut table, port, event);
+    if answer.0 == DONE {
+        encode(&table, image);
+    }
+    packed(answer)
+}
+
+/// Carries out a list of events, pairs of port and event, on an image with one look at it; gives the reader's number.
+/// `answers` gets what [`event`] would answer to each. As many pairs are carried out as are whole in `orders` and have a
+/// place in `answers`; refused by the reader, every byte and every answer stays.
+pub fn run(image: &mut [u8], orders: &[u64], answers: &mut [u64]) -> u64 {
+    let (number, mut table) = read(image);
+    if number != DONE {
+        return number;
+    }
+    for (order, answer) in orders.chunks_exact(2).zip(answers) {
+        *answer = packed(event_unchecked(&mut table, order[0], order[1]));
+    }
+    encode(&table, image);
+    DONE
+}

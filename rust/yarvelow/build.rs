@@ -1,0 +1,17 @@
+//! Links the archive `libcabi.a` from the directory that YARVELOW_LIB names.
+
+use std::env;
+
+fn main() {
+    println!("cargo:rerun-if-env-changed=YARVELOW_LIB");
+    match env::var("YARVELOW_LIB") {
+        Ok(directory) => {
+            println!("cargo:rerun-if-changed={directory}/libcabi.a");
+            println!("cargo:rustc-link-search=native={directory}");
+            println!("cargo:rustc-link-lib=static=cabi");
+        }
+        Err(_) => println!(
+            "cargo:warning=YARVELOW_LIB is not set: nothing links without the directory of libcabi.a"
+        ),
+    }
+}

@@ -1,0 +1,29 @@
+//! A lone passage at D = 2: port 0 enters, comes inside, leaves, and is idle again.
+
+use yarvelow::{Event, Lock, Refusal};
+
+/// Steps a port until an event other than a step is due, and prints its steps and their costs.
+fn walk(lock: &mut Lock, port: u64, what: &str) -> Result<(), Refusal> {
+    let (mut steps, mut cached, mut distributed) = (0, 0, 0);
+    loop {
+        match lock.event(port, Event::Step) {
+            Ok(costs) => {
+                steps += 1;
+                cached += costs.cached;
+                distributed += costs.distributed;
+            }
+            Err(Refusal::Inside | Refusal::Idle) => break,
+            Err(refusal) => return Err(refusal),
+        }
+    }
+    println!("{what}: {steps} steps, {cached} cached, {distributed} distributed");
+    Ok(())
+}
+
+fn main() -> Result<(), Refusal> {
+    let mut lock = Lock::fresh(2)?;
+    lock.event(0, Event::Enter)?;
+    walk(&mut lock, 0, "in")?;
+    lock.event(0, Event::Leave)?;
+    walk(&mut lock, 0, "out")
+}

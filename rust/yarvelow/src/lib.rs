@@ -1,0 +1,160 @@
+//! The lock engine of document 01 from Rust: the table of one lock with D ports, kept as an image in memory.
+//!
+//! The engine is proved; it comes as the archive `libcabi.a`, and the environment variable `YARVELOW_LIB` names the archive's directory when this crate is
+//! built. A [`Lock`] holds an image that was looked at once, in bytes of its own or in lent ones that outlive a restart. The
+//! functions [`fresh`], [`check`], [`event`] and [`run`] work on plain buffers.
+//!
+//! ```
+//! use yarvelow::{Event, Lock, Refusal};
+//!
+//! # fn main() -> Result<(), Refusal> {
+//! let mut lock = Lock::fresh(2)?;
+//! lock.event(0, Event::Enter)?;
+//! // A port steps until it is inside; its 14 steps cost 9 remote references in the cached model.
+//! let mut cached = 0;
+//! while let Ok(costs) = lock.event(0, Event::Step) {
+//!     cached += costs.cached;
+//! }
+//! assert_eq!(cached, 9);
+//! assert_eq!(lock.event(0, Event::Step), Err(Refusal::Inside));
+//! # Ok(())
+//! # }
+//! ```
+
+#![deny(missing_docs)]
+#![deny(unsafe_op_in_unsafe_fn)]
+
+mod answer;
+mod lock;
+pub mod sys;
+
+pub use answer::{Answer, Costs, Refusal};
+pub use lock::{Image, Lock};
+
+/// The most ports that a table has.
+pub const PORTS: usize = 16;
+
+/// The length of the longest image.
+pub const LONGEST: usize = image_length(PORTS);
+
+/// The length of the image of a table of `d` ports.
+///
+/// ```
+/// assert_eq!(yarvelow::image_length(1), 52);
+/// assert_eq!(yarvelow::LONGEST, 382);
+/// ```
+pub const fn image_length(d: usize) -> usize {
+    30 + 22 * d
+}
+
+/// An event at a port.
+#[derive(Clone, Copy, Debug, PartialEq, Eq, Hash)]
+#[repr(u64)]
+pub enum Event {
+    /// E: an idle port begins a passage.
+    Enter = 1,
+    /// S: at most one memory operation; the only event that costs anything.
+    Step = 2,
+    /// X: the port forgets where it was and what it held in mind.
+    Crash = 3,
+    /// A: the port is to give up waiting.
+    CallOff = 4,
+    /// L: a port that is inside begins to leave.
+    Leave = 5,
+}
+
+/// A port and what it is to do, one of a list for [`run`].
+#[derive(Clone, Copy, Debug, PartialEq, Eq, Hash)]
+#[repr(C)]
+pub struct Order {
+    /// The port.
+    pub port: u64,
+    /// The event.
+    pub event: Event,
+}
+
+/// Writes the image of a fresh table of `d` ports at the start of `room` and gives its length.
+/// Refused (`BadSize`, then `ShortRoom`), every byte stays.
+///
+/// ```
+/// use yarvelow::{fresh, Refusal, LONGEST};
+///
+/// let mut room = [0; LONGEST];
+/// assert_eq!(fresh(2, &mut room), Ok(74));
+/// assert_eq!(fresh(17, &mut room), Err(Refusal::BadSize));
+/// assert_eq!(fresh(2, &mut room[..73]), Err(Refusal::ShortRoom));
+/// ```
+pub fn fresh(d: u64, room: &mut [u8]) -> Result<usize, Refusal> {
+    // SAFETY: the pointer and the length are those of a slice that is lent for the call.
+    let answer = unsafe { sys::yarvelow_fresh(d, room.as_mut_ptr(), room.len()) };
+    done(answer).map(|()| (answer >> 8) as usize)
+}
+
+/// Looks whether an image can be used: `BadImage` or `BadTable` if not.
+///
+/// ```
+/// use yarvelow::{check, fresh, Refusal, LONGEST};
+///
+/// let mut room = [0; LONGEST];
+/// let length = fresh(3, &mut room).unwrap();
+/// assert_eq!(check(&room[..length]), Ok(()));
+/// assert_eq!(check(&room), Err(Refusal::BadImage));
+/// ```
+pub fn check(image: &[u8]) -> Result<(), Refusal> {
+    // SAFETY: the pointer and the length are those of a slice that is lent for the call.
+    done(unsafe { sys::yarvelow_check(image.as_ptr(), image.len()) })
+}
+
+/// Carries out an event on an image where it stands, after looking at the image.
+/// Refused, for the image first and then for the event, every byte stays.
+///
+/// ```
+/// use yarvelow::{event, fresh, Costs, Event, Refusal, LONGEST};
+///
+/// let mut room = [0; LONGEST];
+/// let length = fresh(2, &mut room).unwrap();
+/// let image = &mut room[..length];
+/// assert_eq!(event(image, 1, Event::Step), Err(Refusal::Idle));
+/// assert_eq!(event(image, 1, Event::Enter), Ok(Costs::default()));
+/// assert_eq!(event(image, 1, Event::Step), Ok(Costs { cached: 1, distributed: 0 }));
+/// ```
+pub fn event(image: &mut [u8], port: u64, event: Event) -> Result<Costs, Refusal> {
+    // SAFETY: the pointer and the length are those of a slice that is lent for the call.
+    let answer =
+        unsafe { sys::yarvelow_event(image.as_mut_ptr(), image.len(), port, event as u64) };
+    Answer::packed(answer).result()
+}
+
+/// Carries out events one after the other on an image, with one look at it: much faster than as many calls of [`event`],
+/// and the same in the end. `answers[i]` becomes the answer to `orders[i]`; the shorter of the two lists decides how many are carried out.
+/// Refused (`BadImage`, `BadTable`), every byte and every answer stays.
+///
+/// ```
+/// use yarvelow::{fresh, run, Answer, Costs, Event, Order, Refusal, LONGEST};
+///
+/// let mut room = [0; LONGEST];
+/// let length = fresh(2, &mut room).unwrap();
+/// let orders = [Event::Enter, Event::Step, Event::Leave].map(|event| Order { port: 0, event });
+/// let mut answers = [Answer::default(); 3];
+/// assert_eq!(run(&mut room[..length], &orders, &mut answers), Ok(()));
+/// assert_eq!(answers[1].result(), Ok(Costs { cached: 1, distributed: 0 }));
+/// assert_eq!(answers[2].result(), Err(Refusal::NotInside));
+/// ```
+pub fn run(image: &mut [u8], orders: &[Order], answers: &mut [Answer]) -> Result<(), Refusal> {
+    // SAFETY: the pointers and lengths are those of slices that are lent for the call; an order is two numbers of 64 bits, an answer is one.
+    done(unsafe {
+        sys::yarvelow_run(
+            image.as_mut_ptr(),
+            image.len(),
+            orders.as_ptr().cast(),
+            2 * orders.len(),
+            answers.as_mut_ptr().cast(),
+            answers.len(),
+        )
+    })
+}
+
+/// What the number in an answer says.
+fn done(answer: u64) -> Result<(), Refusal> {
+    Answer::packed(answer).result().map(|_| ())
+}
