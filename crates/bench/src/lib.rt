@@ -2,7 +2,6 @@
 use lock::events;
 use lock::runs;
 use model::Answer;
-use rules::answers;
 ghost use mathlib.Core.Path.{_≡_};
 ghost use Prim.Native.Nat.{ℕ, _+_, _*_, _/_, _≤_, min};
 ghost use Rattle.model.specs.Event as Event;

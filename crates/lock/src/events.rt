@@ -4,7 +4,6 @@ use model::Answer;
 use model::Made;
 use model::Outcome;
 use model::Table;
-use rules::answers;
 ghost use mathlib.Core.Path.{_≡_};
 ghost use Rattle.model.specs.Event as Event;
 ghost use Rattle.lock.specs.Single.{answerOf};

@@ -1,11 +1,10 @@
 // Runs: orders carried out on one table, with one check of the table at the start.
 use crate::acts;
 use crate::costs;
+use answers::STEP;
 use model::Answer;
 use model::Made;
 use model::Table;
-use rules::answers;
-use rules::answers::STEP;
 use rules::good;
 use rules::points;
 ghost use mathlib.Core.Path.{_≡_};

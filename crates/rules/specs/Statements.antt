@@ -6,29 +6,14 @@ use lib.Dec.{ltb}
 use Rattle.model.specs.declared.Table.{Table}
 use Rattle.model.specs.declared.Port.{Port}
 use Rattle.model.specs.declared.Touch.{Touch}
-use Rattle.model.specs.declared.Made.{Made}
-use Rattle.model.specs.declared.Answer.{Answer}
 use Rattle.model.specs.Mask.{stands, within}
 use Rattle.model.specs.Points.{pointOf, settled}
 use Rattle.model.specs.Good.{sizeGood, good}
 use Rattle.model.specs.Cost.{touchAt}
-use Rattle.model.specs.Event.{numberOf, fresh, firstOf, refusals, ordered}
 
 -- the form of every promise
 pub one : {A : Type 0} {x r s : A} → r ≡ x → s ≡ x → r ≡ s
 one p q = p ∙ sym q
-
-pub number-one : (a : Answer) (r s : ℕ) → r ≡ numberOf a → s ≡ numberOf a → r ≡ s
-number-one a r s = one
-
-pub fresh-one : (d : ℕ) (r s : Made) → r ≡ fresh d → s ≡ fresh d → r ≡ s
-fresh-one d r s = one
-
-pub refusal-one : (e : ℕ) (p : Port) (r s : Answer) → r ≡ firstOf (refusals e p) → s ≡ firstOf (refusals e p) → r ≡ s
-refusal-one e p r s = one
-
-pub ordered-one : (e : ℕ) (p r s : Port) → r ≡ ordered e p → s ≡ ordered e p → r ≡ s
-ordered-one e p r s = one
 
 pub size-good-one : (d : ℕ) (r s : Bool) → r ≡ sizeGood d → s ≡ sizeGood d → r ≡ s
 size-good-one d r s = one

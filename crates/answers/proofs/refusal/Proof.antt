@@ -1,7 +1,7 @@
 use Rattle.model.specs.Table.{most}
 use Rattle.model.specs.Event.{refusals, firstOf, busy, worn, notInside, idle, inside}
-use Rattle.rules.proofs.answers.refusal.Statement.{statement}
-use Rattle.rules.proofs.answers.refusal.Tie as tie
+use Rattle.answers.proofs.refusal.Statement.{statement}
+use Rattle.answers.proofs.refusal.Tie as tie
 
 returns : tie.Need-returns
 unfolding refusals firstOf busy worn notInside idle inside most

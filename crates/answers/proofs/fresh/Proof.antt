@@ -1,7 +1,7 @@
 use borrow.Author.Needs.{needs}
 use Rattle.model.specs.Event.{fresh}
-use Rattle.rules.proofs.answers.fresh.Statement.{statement}
-use Rattle.rules.proofs.answers.fresh.Tie as tie
+use Rattle.answers.proofs.fresh.Statement.{statement}
+use Rattle.answers.proofs.fresh.Tie as tie
 
 returns : tie.Need-returns
 unfolding fresh

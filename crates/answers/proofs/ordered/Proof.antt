@@ -1,8 +1,8 @@
 use borrow.Author.Needs.{needs}
 use borrow.Author.Tests.{eq-eqb, ne-eqb}
 use Rattle.model.specs.Event.{ordered}
-use Rattle.rules.proofs.answers.ordered.Statement.{statement}
-use Rattle.rules.proofs.answers.ordered.Tie as tie
+use Rattle.answers.proofs.ordered.Statement.{statement}
+use Rattle.answers.proofs.ordered.Tie as tie
 
 returns : tie.Need-returns
 unfolding ordered

@@ -1,5 +1,4 @@
 // Fresh tables, answers, and the events that are no step.
-use crate::good;
 use model::Answer;
 use model::Copies;
 use model::Made;
@@ -9,6 +8,7 @@ use model::Shared;
 use model::Table;
 use model::Word;
 use model::Work;
+use rules::good;
 ghost use mathlib.Core.Path.{_≡_};
 ghost use Rattle.model.specs.Table.{noWork, freshTable};
 ghost use Rattle.model.specs.Event as Event;

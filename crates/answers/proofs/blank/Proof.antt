@@ -1,7 +1,7 @@
 use borrow.Author.Needs.{needs}
 use Rattle.model.specs.Table.{room, freshTable}
-use Rattle.rules.proofs.answers.blank.Statement.{statement}
-use Rattle.rules.proofs.answers.blank.Tie as tie
+use Rattle.answers.proofs.blank.Statement.{statement}
+use Rattle.answers.proofs.blank.Tie as tie
 
 returns : tie.Need-returns
 unfolding freshTable room
