@@ -12,7 +12,7 @@ use Rattle.model.specs.Points.{Tens, two, three, four, none, promotion, points,
 use Rattle.model.specs.Good.{everyBelow}
 use Rattle.model.specs.Step.{changed, step}
 use Rattle.model.specs.Laws.Tests.{every-below}
-use Rattle.rules.specs.Places.{nones, from}
+use Rattle.points.specs.Places.{nones, from}
 
 abbrev pub Outside : ℕ → List ℕ → Type 0
 Outside n [] = Unit {0}

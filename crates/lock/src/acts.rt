@@ -7,7 +7,7 @@ use model::Port;
 use model::Shared;
 use model::Touch;
 use model::View;
-use rules::points;
+use points::places;
 ghost use mathlib.Core.Path.{_≡_};
 ghost use mathlib.Core.Bool.{cond};
 ghost use Rattle.model.specs.Step.{withValue};
@@ -53,7 +53,7 @@ pub fn stepped(u: Touch, s: Shared, k: u64, own: Port, q: Port, c: Copies) -> Le
     let shared = x.shared;
     let copies = x.copies;
     Left {
-        own: points::settled(m.own),
+        own: places::settled(m.own),
         shared,
         copies,
         sets: m.sets & fits,

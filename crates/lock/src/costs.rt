@@ -90,7 +90,7 @@ fn missed(m: u64, k: u64) -> u64
     requires { ⌜ k < 64 ⌝ }
     ensures { λ r. ⌜ r ≡ cond (stands m k) 0 1 ⌝ }
 {
-    if rules::masks::stands(m, k) { 0 } else { 1 }
+    if points::masks::stands(m, k) { 0 } else { 1 }
 }
 
 fn cached(kind: Kind, k: u64, m: u64) -> u64

@@ -5,8 +5,8 @@ use answers::STEP;
 use model::Answer;
 use model::Made;
 use model::Table;
+use points::places;
 use rules::good;
-use rules::points;
 ghost use mathlib.Core.Path.{_≡_};
 ghost use Prim.Native.Nat.{ℕ, _+_, _*_, _<_, min};
 ghost use Rattle.model.specs.Run as Run;
@@ -64,7 +64,7 @@ pub fn run(mut table: Table, orders: &[u64], answers: &mut [u64]) -> Made
             i += 1;
             continue;
         }
-        let u = points::touch_at(own.point);
+        let u = places::touch_at(own.point);
         let cell = u.cell;
         let j = costs::home(cell, port, own.work) as usize;
         let l = acts::stepped(u, table.shared, port, own, table.ports[j], table.copies[j]);

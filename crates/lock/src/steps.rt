@@ -164,7 +164,7 @@ fn entering(v: View) -> Move
         }
         4 => new_spin(v),
         5 => {
-            p.point = pick(rules::masks::stands(v.active, v.k), 20, 6);
+            p.point = pick(points::masks::stands(v.active, v.k), 20, 6);
             changed(v, p)
         }
         6 => {
@@ -207,7 +207,7 @@ fn leaving(v: View) -> Move
             changed(v, p)
         }
         14 => {
-            p.point = pick(rules::masks::stands(v.active, v.k), 15, 16);
+            p.point = pick(points::masks::stands(v.active, v.k), 15, 16);
             changed(v, p)
         }
         15 => {

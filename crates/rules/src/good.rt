@@ -1,12 +1,12 @@
 // Good tables: a test for each rule of document 01, over what one port holds and a few numbers.
-use crate::masks;
-use crate::points;
 use model::Copies;
 use model::Port;
 use model::ROOM;
 use model::Shared;
 use model::Table;
 use model::Work;
+use points::masks;
+use points::places;
 ghost use mathlib.Core.Path.{_≡_};
 ghost use Prim.Native.Nat.{_<_, _≤_};
 ghost use Rattle.model.specs.Table.{room};
@@ -47,7 +47,7 @@ fn fields_good(active: u64, k: u64, p: Port) -> bool
     ensures { λ r. ⌜ r ≡ Good.fieldsGood active k p ⌝ }
 {
     let bit = masks::stands(active, k);
-    points::has(points::NAMED, p.point)
+    places::has(places::NAMED, p.point)
         & (p.status <= 3)
         & (p.flag <= 1)
         & (p.value <= 1)
@@ -63,18 +63,18 @@ fn fields_good(active: u64, k: u64, p: Port) -> bool
 fn work_good(d: u64, point: u8, made: u16, seenmade: u16, candidatemade: u16, w: Work) -> bool
     ensures { λ r. ⌜ r ≡ Good.workGood d point made seenmade candidatemade w ⌝ }
 {
-    let seen = points::has(points::SEEN, point);
+    let seen = places::has(places::SEEN, point);
     (wide(w.seenowner) < d)
         & (wide(w.candidate) < d)
         & (w.own <= made)
         & (w.seenspin <= seenmade)
         & (w.candidatespin <= candidatemade)
         & (!((point == 25) | (point == 35) | (point == 45)) | (0 < w.seenspin))
-        & (points::has(points::OWN, point) | (w.own == 0))
+        & (places::has(places::OWN, point) | (w.own == 0))
         & (seen | (w.seenowner == 0))
         & (seen | (w.seenspin == 0))
-        & (points::has(points::CANDIDATE, point) | (w.candidate == 0))
-        & (points::has(points::CANDIDATE_SPIN, point) | (w.candidatespin == 0))
+        & (places::has(places::CANDIDATE, point) | (w.candidate == 0))
+        & (places::has(places::CANDIDATE_SPIN, point) | (w.candidatespin == 0))
 }
 
 // The copy sets of a port that has made so many spins.

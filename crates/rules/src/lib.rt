@@ -1,4 +1,2 @@
-// The rules of document 01 as functions: which tables are good, and the tables by point.
+// Which tables are good: the rules of document 01 as functions.
 pub mod good;
-pub mod masks;
-pub mod points;

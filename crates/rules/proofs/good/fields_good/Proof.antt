@@ -1,6 +1,6 @@
 use borrow.Author.Needs.{needs}
 use Rattle.model.specs.Table.{most}
-use Rattle.rules.specs.Places.{named-table}
+use Rattle.points.specs.Places.{named-table}
 use Rattle.model.specs.Good.{fieldsGood}
 use Rattle.rules.proofs.good.fields_good.Statement.{statement}
 use Rattle.rules.proofs.good.fields_good.Tie as tie

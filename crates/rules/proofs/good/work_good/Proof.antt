@@ -1,6 +1,6 @@
 use borrow.Author.Needs.{needs}
 use mathlib.Core.Bool.{Bool·not-not, or-false, or-assoc}
-use Rattle.rules.specs.Places.{own-table, seen-table, candidate-table, candidate-spin-table}
+use Rattle.points.specs.Places.{own-table, seen-table, candidate-table, candidate-spin-table}
 use Rattle.model.specs.Good.{workGood}
 use Rattle.rules.proofs.good.work_good.Statement.{statement}
 use Rattle.rules.proofs.good.work_good.Tie as tie

@@ -1,8 +1,8 @@
 use borrow.Author.Needs.{needs}
 use borrow.Author.Tests.{lt-ltb, le-ltb}
 use Rattle.model.specs.Mask.{stands}
-use Rattle.rules.proofs.points.has.Statement.{statement}
-use Rattle.rules.proofs.points.has.Tie as tie
+use Rattle.points.proofs.places.has.Statement.{statement}
+use Rattle.points.proofs.places.has.Tie as tie
 
 returns : tie.Need-returns
 unfolding stands

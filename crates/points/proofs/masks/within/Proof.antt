@@ -5,8 +5,8 @@ use native.Mathlib.Nat.{lt-of-lt-of-le}
 use lib.Pow.{pow-mono}
 use Rattle.model.specs.Mask.{within}
 use Rattle.model.specs.Laws.Mask.{lt-within}
-use Rattle.rules.proofs.masks.within.Statement.{statement}
-use Rattle.rules.proofs.masks.within.Tie as tie
+use Rattle.points.proofs.masks.within.Statement.{statement}
+use Rattle.points.proofs.masks.within.Tie as tie
 
 returns : tie.Need-returns
 unfolding within

@@ -1,8 +1,8 @@
 use borrow.Author.Needs.{needs}
 use Rattle.model.specs.Points.{settled}
-use Rattle.rules.specs.Places.{own-table, seen-table, candidate-table, candidate-spin-table}
-use Rattle.rules.proofs.points.settled.Statement.{statement}
-use Rattle.rules.proofs.points.settled.Tie as tie
+use Rattle.points.specs.Places.{own-table, seen-table, candidate-table, candidate-spin-table}
+use Rattle.points.proofs.places.settled.Statement.{statement}
+use Rattle.points.proofs.places.settled.Tie as tie
 
 returns : tie.Need-returns
 unfolding settled

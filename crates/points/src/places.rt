@@ -9,7 +9,7 @@ ghost use mathlib.Core.Bool.{_&&_};
 ghost use lib.Dec.{ltb};
 ghost use Rattle.model.specs.Mask.{stands};
 ghost use Rattle.model.specs.Points as Points;
-ghost use Rattle.rules.specs.Places.{cellOf, kindOf};
+ghost use Rattle.points.specs.Places.{cellOf, kindOf};
 ghost use Rattle.model.specs.Cost as Cost;
 
 // One past the highest point.

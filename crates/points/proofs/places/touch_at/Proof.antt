@@ -1,8 +1,8 @@
 use borrow.Author.Needs.{needs}
 use mathlib.Core.Path.{sym}
-use Rattle.rules.specs.Places.{touch-table, touch-beyond}
-use Rattle.rules.proofs.points.touch_at.Statement.{statement}
-use Rattle.rules.proofs.points.touch_at.Tie as tie
+use Rattle.points.specs.Places.{touch-table, touch-beyond}
+use Rattle.points.proofs.places.touch_at.Statement.{statement}
+use Rattle.points.proofs.places.touch_at.Tie as tie
 
 returns : tie.Need-returns
 returns c = cc (touch-table (c .before .before .before .args .n) (c .before .before .if1 .taken))

@@ -1,7 +1,7 @@
 use borrow.Author.Tests.{ne-eqb}
-use Rattle.rules.specs.Places.{cellOf}
-use Rattle.rules.proofs.points.cell_of.Statement.{statement}
-use Rattle.rules.proofs.points.cell_of.Tie as tie
+use Rattle.points.specs.Places.{cellOf}
+use Rattle.points.proofs.places.cell_of.Statement.{statement}
+use Rattle.points.proofs.places.cell_of.Tie as tie
 
 returns : tie.Need-returns
 unfolding cellOf

@@ -3,8 +3,8 @@ use borrow.Author.Needs.{needs}
 use mathlib.Core.Path.{refl, sym}
 use Rattle.model.specs.Mask.{stands}
 use Rattle.model.specs.Laws.Mask.{beyond}
-use Rattle.rules.proofs.masks.stands.Statement.{statement}
-use Rattle.rules.proofs.masks.stands.Tie as tie
+use Rattle.points.proofs.masks.stands.Statement.{statement}
+use Rattle.points.proofs.masks.stands.Tie as tie
 
 returns : tie.Need-returns
 unfolding stands

@@ -1,7 +1,7 @@
 use borrow.Author.Tests.{ne-eqb}
-use Rattle.rules.specs.Places.{kindOf}
-use Rattle.rules.proofs.points.kind_of.Statement.{statement}
-use Rattle.rules.proofs.points.kind_of.Tie as tie
+use Rattle.points.specs.Places.{kindOf}
+use Rattle.points.proofs.places.kind_of.Statement.{statement}
+use Rattle.points.proofs.places.kind_of.Tie as tie
 
 returns : tie.Need-returns
 unfolding kindOf

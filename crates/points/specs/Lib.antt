@@ -1,0 +1,3 @@
+-- Laws of the definitions in the form in which this crate's code needs them: nothing here needs to be believed.
+pub mod Places
+pub mod Statements
