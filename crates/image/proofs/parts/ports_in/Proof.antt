@@ -1,0 +1,87 @@
+use mathlib.Core.Path.{_≡_, refl, sym, _∙_}
+use native.Mathlib.Omega.{arith}
+use borrow.Author.Tests.{not-true, not-false}
+use lib.ListN.{replicate}
+use Rattle.image.specs.Bytes.{sum, unpack}
+use Rattle.image.specs.Layout.{headWidths}
+use Rattle.rules.specs.Check.{size-fits}
+use Rattle.image.specs.Laws.Reading.{got, too-short, wrong-size, wrong-length, wrong-head, right}
+use borrow.Author.Needs.{needs}
+use Rattle.image.proofs.parts.ports_in.Statement.{statement}
+use Rattle.image.proofs.parts.ports_in.Tie as tie
+
+-- the head's values
+head-got : (c : tie.After-get-row) → c .get-row .last .1 .1 .1 .0 ≡ unpack headWidths (c .before .before .before .before .before .args .bytes .now)
+unfolding headWidths
+head-got c = got headWidths (c .before .before .before .before .before .args .bytes .now) (replicate 8 0) _ refl (c .get-row .ensures)
+
+returns : tie.Need-returns
+returns c = too-short _ (c .if1 .taken)
+
+slice-aggregate-get-row : tie.Need-slice-aggregate-get-row
+slice-aggregate-get-row c = search needs
+
+slice-aggregate-get-row-2 : tie.Need-slice-aggregate-get-row-2
+slice-aggregate-get-row-2 c = search needs
+
+get-row-requires : tie.Need-get-row-requires
+unfolding sum
+get-row-requires c κs = (refl, omega arith, omega (arith, c .before .before .if1 .left))
+
+array-read-d : tie.Need-array-read-d
+array-read-d c = search needs
+
+size-good-requires : tie.Need-size-good-requires
+size-good-requires c κs = search needs
+
+returns-2 : tie.Need-returns-2
+returns-2 c = wrong-size _ _ (head-got (c .before .before .before)) (sym (c .before .size-good .ensures) ∙ not-true _ (c .if2 .taken))
+
+size-requires : tie.Need-size-requires
+size-requires c κs = size-fits _ _ (c .before .size-good .ensures) (c .if2 .left)
+
+returns-3 : tie.Need-returns-3
+returns-3 c = wrong-length _ _ (head-got (c .before .before .before .before .before)) (λ e. c .if3 .taken (e ∙ sym (c .before .size .ensures)))
+
+head-values-requires : tie.Need-head-values-requires
+head-values-requires c κs = size-fits _ _ (c .before .before .before .size-good .ensures) (c .before .before .if2 .left)
+
+slice-aggregate-same : tie.Need-slice-aggregate-same
+slice-aggregate-same c = search needs
+
+slice-aggregate-same-2 : tie.Need-slice-aggregate-same-2
+slice-aggregate-same-2 c = search needs
+
+same-requires : tie.Need-same-requires
+same-requires c κs = search needs
+
+returns-4 : tie.Need-returns-4
+returns-4 c =
+    let k = c .before .before .before .before .before .before in
+    right _ _ (head-got (c .before .before .before .before .before .before .before .before .before .before))
+    (sym (k .before .before .size-good .ensures) ∙ not-false _ (k .before .if2 .left))
+    (c .before .before .before .before .before .if3 .left ∙ k .size .ensures)
+    (rw (← (c .before .before .before .before .head-values .ensures)) (sym (c .before .same .ensures) ∙ c .if4 .taken))
+
+returns-5 : tie.Need-returns-5
+returns-5 c = wrong-head _ _ (head-got (c .before .before .before .before .before .before .before .before .before .before)) (rw (← (c .before .before .before .before .head-values .ensures)) (sym (c .before .same .ensures) ∙ c .if4 .left))
+
+pub ports-in-spec : {M : Type 1} → statement M
+ports-in-spec =
+    tie.close
+    (tie.spec
+    returns
+    slice-aggregate-get-row
+    slice-aggregate-get-row-2
+    get-row-requires
+    array-read-d
+    size-good-requires
+    returns-2
+    size-requires
+    returns-3
+    head-values-requires
+    slice-aggregate-same
+    slice-aggregate-same-2
+    same-requires
+    returns-4
+    returns-5)

@@ -1,0 +1,56 @@
+use mathlib.Core.Path.{refl, _∙_}
+use mathlib.Core.List.{[], _∷_}
+use native.Mathlib.Omega.{arith}
+use lib.ListN.{drop, replicate}
+use Rattle.image.specs.Bytes.{Bytes}
+use Rattle.image.specs.Layout.{sharedWidths, copiedWidths}
+use Rattle.image.specs.Laws.Digits.{bytes-drop}
+use Rattle.image.specs.Laws.Reading.{got, got-cut-tail, shared-got}
+use borrow.Author.Needs.{needs}
+use Rattle.image.proofs.parts.shared_at.Statement.{statement}
+use Rattle.image.proofs.parts.shared_at.Tie as tie
+
+slice-aggregate-get-row : tie.Need-slice-aggregate-get-row
+slice-aggregate-get-row c = search needs
+
+slice-aggregate-get-row-2 : tie.Need-slice-aggregate-get-row-2
+slice-aggregate-get-row-2 c = search needs
+
+get-row-requires : tie.Need-get-row-requires
+unfolding sharedWidths
+get-row-requires c κs = (refl, omega arith, c .before .before .before .pre .0)
+
+slice-aggregate-get-row-3 : tie.Need-slice-aggregate-get-row-3
+slice-aggregate-get-row-3 c = search needs
+
+slice-aggregate-get-row-4 : tie.Need-slice-aggregate-get-row-4
+slice-aggregate-get-row-4 c = search needs
+
+get-row-requires-2 : tie.Need-get-row-requires-2
+unfolding copiedWidths
+get-row-requires-2 c κs = (refl, omega arith, c .before .before .before .before .before .before .before .pre .1)
+
+shared-of-requires : tie.Need-shared-of-requires
+shared-of-requires c κs = search needs
+
+returns : tie.Need-returns
+unfolding sharedWidths copiedWidths
+returns c =
+    let s = c .before .before .before .before .before .before .before .before .before .before in
+    let f : Bytes (s .args .bytes .now) = (λ i. c .before .before .before .before .before .before .before .before .before .shared-slice-known .given i .fits) in
+    let v = got-cut-tail 8 (1 ∷ 1 ∷ 2 ∷ []) (drop (s .args .at) (s .args .bytes .now)) (replicate 4 0) _ (bytes-drop (s .args .at) (s .args .bytes .now) f) refl (c .before .before .before .before .before .before .get-row .ensures) in
+    let w = got copiedWidths (drop (s .args .copied) (s .args .bytes .now)) (replicate 2 0) _ refl (c .before .before .get-row2 .ensures) in
+    c .shared-of .ensures ∙ shared-got (s .args .d) _ _ _ _ v w
+
+pub shared-at-spec : {M : Type 1} → statement M
+shared-at-spec =
+    tie.close
+    (tie.spec
+    slice-aggregate-get-row
+    slice-aggregate-get-row-2
+    get-row-requires
+    slice-aggregate-get-row-3
+    slice-aggregate-get-row-4
+    get-row-requires-2
+    shared-of-requires
+    returns)

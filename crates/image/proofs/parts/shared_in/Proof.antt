@@ -1,0 +1,32 @@
+use mathlib.Core.Path.{_∙_}
+use native.Mathlib.Omega.{arith}
+use borrow.Author.Tests.{eq-eqb, ne-eqb}
+use Rattle.model.specs.Table.{freshTable}
+use Rattle.image.specs.Bytes.{sum}
+use Rattle.image.specs.Layout.{headWidths, sharedWidths, portWidths, copiedWidths, copiesWidths, bodies, size, sharedPlace, portPlace}
+use Rattle.image.specs.Laws.Reading.{sharedIn, ports-fit}
+use Rattle.image.proofs.parts.shared_in.Statement.{statement}
+use Rattle.image.proofs.parts.shared_in.Tie as tie
+
+returns : tie.Need-returns
+unfolding sharedIn freshTable
+returns c = rw (eq-eqb _ _ (c .if1 .taken))
+
+port-place-requires : tie.Need-port-place-requires
+port-place-requires c κs = rw (c .before .before .pre) (ports-fit _ .0)
+
+shared-at-requires : tie.Need-shared-at-requires
+unfolding sum headWidths sharedWidths portWidths copiedWidths copiesWidths bodies size sharedPlace portPlace
+shared-at-requires c κs =
+    let s = c .before .before .before in
+    let h = ports-fit (s .args .bytes .now) in
+    let l = h .1 (omega (arith, s .pre, c .before .if1 .left)) in
+    (omega (arith, l), omega (arith, l, s .pre, c .port-place .ensures))
+
+returns-2 : tie.Need-returns-2
+unfolding sharedIn sharedPlace headWidths sum
+returns-2 c =
+    c .shared-at .ensures ∙ rw (c .before .port-place .ensures, ne-eqb _ _ (c .before .before .if1 .left))
+
+pub shared-in-spec : {M : Type 1} → statement M
+shared-in-spec = tie.close (tie.spec returns port-place-requires shared-at-requires returns-2)

@@ -1,0 +1,9 @@
+-- Laws of the definitions: nothing here needs to be believed.
+pub mod Digits
+pub mod Records
+pub mod Rows
+pub mod Reading
+pub mod Writing
+pub mod Fits
+pub mod RoundTrip
+pub mod Promises

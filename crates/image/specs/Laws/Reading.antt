@@ -1,0 +1,253 @@
+-- Reading as the code does it: D first, 0 where the bytes are no image; then port by port.
+use mathlib.Core.Path.{_≡_, refl, sym, ap, _∙_}
+use mathlib.Core.Bool.{Bool, true, false, cond, _&&_, and-eq-true-iff, and-false, and-true}
+use mathlib.Core.List.{List, [], _∷_, _++_, map, append-assoc, append-nil, map-append}
+use Prim.Native.Nat.{ℕ, zero, suc, _+_, _-_, _*_, _≤_, _<_}
+use native.Mathlib.Nat.{zero-mul, add-zero, sub-zero}
+use native.Mathlib.Numerals.{add-one}
+use native.Mathlib.Omega.{arith}
+use borrow.Author.Tests.{eqb-true, eq-eqb, ne-eqb, leb-true, lt-leb}
+use lib.Dec.{eqb, leb}
+use lib.ListN.{length, getD, set, drop, replicate, length-map, drop-of-length-le}
+use lib.Seq.{sets, sets-eq, set-at, append-snoc, drop-drop}
+use Rattle.model.specs.declared.Port.{Port}
+use Rattle.model.specs.declared.Copies.{Copies}
+use Rattle.model.specs.declared.Shared.{Shared}
+use Rattle.model.specs.declared.Table.{Table}
+use Rattle.model.specs.declared.Made.{Made}
+use Rattle.model.specs.declared.Answer.{Answer}
+use Rattle.model.specs.declared.Answer.the-variants.{Done, BadTable, BadImage}
+use Rattle.model.specs.Table.{room, noPort, noCopies, freshTable}
+use Rattle.model.specs.Good.{sizeGood, good}
+use Rattle.model.specs.Event.{numberOf}
+use Rattle.image.specs.Bytes.{Bytes, sum, unpack, unpacks}
+use Rattle.image.specs.Layout.{sharedWidths, portWidths, copiedWidths, copiesWidths, headWidths, headValues, sharedOf, portOf, copiesOf, sharedPlace, portPlace, copiesPlace, bodies, size}
+use Rattle.image.specs.Image.{same, dIn, isImage, held, refused, opened, decode}
+use Rattle.image.specs.Laws.Digits.{bytes-drop}
+use Rattle.image.specs.Laws.Records.{length-unpack, unpack-fits, length-unpacks, unpacks-more}
+use Rattle.image.specs.Laws.Rows.{cut, cut-fits}
+
+-- D of an image, and 0 of bytes that are none
+unfoldable pub portsIn : List ℕ → ℕ
+portsIn bs = cond (isImage bs) (dIn bs) 0
+
+-- what all ports share, and the answer, from that D
+unfoldable pub sharedIn : ℕ → List ℕ → Shared
+sharedIn d bs =
+    cond (eqb d 0)
+    (freshTable 1 .shared)
+    (sharedOf d (unpack sharedWidths (drop sharedPlace bs)) (unpack copiedWidths (drop (portPlace d) bs)))
+
+unfoldable pub answerIn : ℕ → Answer
+answerIn d = cond (eqb d 0) BadImage Done
+
+-- the tests of an image, one by one
+pub record Image (bs : List ℕ) : Type 0 where
+  pub some : 1 ≤ dIn bs
+  pub fits : dIn bs ≤ room
+  pub long : length bs ≡ size (dIn bs)
+  pub head : same (unpack headWidths bs) (headValues (dIn bs)) ≡ true
+
+pub image-tests : (bs : List ℕ) → isImage bs ≡ true → Image bs
+unfolding isImage sizeGood
+image-tests bs e =
+    let a = and-eq-true-iff (leb 1 (dIn bs) && leb (dIn bs) room && eqb (length bs) (size (dIn bs))) _ .0 e in
+    let b = and-eq-true-iff (leb 1 (dIn bs) && leb (dIn bs) room) _ .0 (a .0) in
+    let c = and-eq-true-iff (leb 1 (dIn bs)) _ .0 (b .0) in
+    record {
+      some = leb-true _ _ (c .0);
+      fits = leb-true _ _ (c .1);
+      long = eqb-true _ _ (b .1);
+      head = a .1;
+    }
+
+-- that D is at most the room, and where it is not 0 the bytes are as long as its image
+pub ports-fit : (bs : List ℕ) → (portsIn bs ≤ room) × (0 < portsIn bs → length bs ≡ size (portsIn bs))
+unfolding portsIn
+ports-fit bs = go (isImage bs) refl
+  where
+    go : (b : Bool) → isImage bs ≡ b → (cond b (dIn bs) 0 ≤ room) × (0 < cond b (dIn bs) 0 → length bs ≡ size (cond b (dIn bs) 0))
+    go true e = (image-tests bs e .fits, λ h. image-tests bs e .long)
+    go false e = (omega arith, λ h. absurd (omega (arith, h)))
+
+-- a record put into a list of its length is the list
+pub sets-whole : (l xs : List ℕ) → length l ≡ length xs → sets l 0 xs ≡ xs
+sets-whole l xs e =
+    let h : length l ≤ 0 + length xs = omega (arith, e) in
+    sets-eq xs l 0 (omega (arith, e)) ∙ ap (λ (k : List ℕ). xs ++ k) (drop-of-length-le l h) ∙ append-nil xs
+
+-- a record got: its values are those that the bytes stand for, and cutting them to their widths changes nothing
+pub got : (ws bs l v : List ℕ) → length l ≡ length ws → v ≡ sets l 0 (unpack ws bs) → v ≡ unpack ws bs
+got ws bs l v h e = e ∙ sets-whole l (unpack ws bs) (h ∙ sym (length-unpack ws bs))
+
+pub got-cut : (ws bs l v : List ℕ) → Bytes bs → length l ≡ length ws → v ≡ sets l 0 (unpack ws bs) → cut 0 ws v ≡ unpack ws bs
+got-cut ws bs l v f h e = let g = got ws bs l v h e in rw g (cut-fits 0 ws (unpack ws bs) (unpack-fits ws bs f))
+
+pub got-cut-tail : (w : ℕ) (ws bs l v : List ℕ) → Bytes bs → length l ≡ length (w ∷ ws) → v ≡ sets l 0 (unpack (w ∷ ws) bs)
+    → getD v 0 0 ∷ cut 1 ws v ≡ unpack (w ∷ ws) bs
+unfolding unpack
+got-cut-tail w ws bs l v f h e =
+    let g = got (w ∷ ws) bs l v h e in
+    rw (g, cut-fits 1 ws (unpack (w ∷ ws) bs) (unpack-fits ws (drop w bs) (bytes-drop w bs f)))
+
+pub shared-got : (d : ℕ) (vs xs cs ys : List ℕ) → vs ≡ xs → cs ≡ ys → sharedOf d vs cs ≡ sharedOf d xs ys
+shared-got d vs xs cs ys e g = rw (e, g)
+
+-- D is found test by test
+ports-none : (bs : List ℕ) → isImage bs ≡ false → 0 ≡ portsIn bs
+unfolding portsIn
+ports-none bs e = rw e
+
+module _ (bs : List ℕ) where
+  pub too-short : length bs < 14 → 0 ≡ portsIn bs
+  unfolding isImage size sum headWidths
+  too-short h =
+      ports-none bs
+      (rw (ne-eqb (length bs) (size (dIn bs)) (λ e. absurd (omega (arith, e))), and-false (sizeGood (dIn bs))))
+
+  module _ (v : List ℕ) (e : v ≡ unpack headWidths bs) where
+    d-in : dIn bs ≡ getD v 1 0
+    unfolding dIn
+    d-in = rw e
+
+    pub wrong-size : sizeGood (getD v 1 0) ≡ false → 0 ≡ portsIn bs
+    unfolding isImage
+    wrong-size h = ports-none bs (rw (d-in, h))
+
+    pub wrong-length : (length bs ≡ size (getD v 1 0) → ⊥) → 0 ≡ portsIn bs
+    unfolding isImage
+    wrong-length h = ports-none bs (rw (d-in, ne-eqb (length bs) (size (getD v 1 0)) h, and-false (sizeGood (getD v 1 0))))
+
+    pub wrong-head : same v (headValues (getD v 1 0)) ≡ false → 0 ≡ portsIn bs
+    unfolding isImage
+    wrong-head h = ports-none bs (rw (d-in, ← e, h) (and-false (sizeGood (getD v 1 0) && eqb (length bs) (size (getD v 1 0)))))
+
+    pub right : sizeGood (getD v 1 0) ≡ true → length bs ≡ size (getD v 1 0) → same v (headValues (getD v 1 0)) ≡ true → getD v 1 0 ≡ portsIn bs
+    unfolding isImage portsIn
+    right a b c = rw (d-in, ← e, a, eq-eqb _ _ b, c)
+
+-- records of one kind read so far, with empty ones after them: one record more
+module _ {A : Type 0} (f : List ℕ → A) (z : A) (ws bs : List ℕ) where
+  abbrev pub filled : ℕ → List A
+  filled i = map f (unpacks ws i bs) ++ replicate (room - i) z
+
+  pub fill-turn : (i : ℕ) → i < room → set (filled i) i (f (unpack ws (drop (i * sum ws) bs))) ≡ filled (i + 1)
+  fill-turn i h =
+      let e : room - i ≡ suc (room - (i + 1)) = omega arith in
+      let l : length (map f (unpacks ws i bs)) ≡ i = length-map (unpacks ws i bs) f ∙ length-unpacks ws i bs in
+      let m : map f (unpacks ws (i + 1) bs) ≡ map f (unpacks ws i bs) ++ (f (unpack ws (drop (i * sum ws) bs)) ∷ []) =
+      rw (add-one i, unpacks-more ws i bs) (map-append f (unpacks ws i bs) (unpack ws (drop (i * sum ws) bs) ∷ [])) in
+      rw (e, m)
+      (set-at (map f (unpacks ws i bs)) z (replicate (room - (i + 1)) z) _ i l
+      ∙ sym (append-snoc (map f (unpacks ws i bs)) _ (replicate (room - (i + 1)) z)))
+
+-- the records of port i have their places
+pub ports-there : (bs : List ℕ) (n i : ℕ) → n ≡ portsIn bs → i < n
+    → (portPlace i + sum portWidths ≤ length bs) × (copiesPlace n i + sum copiesWidths ≤ length bs)
+unfolding sum headWidths sharedWidths portWidths copiedWidths copiesWidths bodies size sharedPlace portPlace copiesPlace
+ports-there bs n i e h =
+    let l = ports-fit bs .1 (omega (arith, e)) in
+    (omega (arith, l, e), omega (arith, l, e))
+
+-- the reader's loop
+pub record Reading (bs : List ℕ) (n i : ℕ) (ps : List Port) (cs : List Copies) : Type 0 where
+  pub upto : i ≤ n
+  pub ports : ps ≡ filled portOf noPort portWidths (drop (portPlace 0) bs) i
+  pub copies : cs ≡ filled copiesOf noCopies copiesWidths (drop (copiesPlace n 0) bs) i
+
+pub read-start : (bs : List ℕ) (n : ℕ) → Reading bs n 0 (replicate room noPort) (replicate room noCopies)
+unfolding unpacks
+read-start bs n = record { upto = omega arith; ports = rw (sub-zero room); copies = rw (sub-zero room) }
+
+port-there : (k : ℕ) (bs : List ℕ) → drop (portPlace k) bs ≡ drop (k * sum portWidths) (drop (portPlace 0) bs)
+unfolding portPlace
+port-there k bs =
+    let e : sharedPlace + sum sharedWidths + 0 * sum portWidths + k * sum portWidths ≡ sharedPlace + sum sharedWidths + k * sum portWidths =
+    rw (zero-mul (sum portWidths), add-zero (sharedPlace + sum sharedWidths)) in
+    sym (drop-drop (k * sum portWidths) (sharedPlace + sum sharedWidths + 0 * sum portWidths) bs ∙ ap (λ (m : ℕ). drop m bs) e)
+
+copies-there : (n k : ℕ) (bs : List ℕ) → drop (copiesPlace n k) bs ≡ drop (k * sum copiesWidths) (drop (copiesPlace n 0) bs)
+unfolding copiesPlace
+copies-there n k bs =
+    let e : portPlace n + sum copiedWidths + 0 * sum copiesWidths + k * sum copiesWidths ≡ portPlace n + sum copiedWidths + k * sum copiesWidths =
+    rw (zero-mul (sum copiesWidths), add-zero (portPlace n + sum copiedWidths)) in
+    sym (drop-drop (k * sum copiesWidths) (portPlace n + sum copiedWidths + 0 * sum copiesWidths) bs ∙ ap (λ (m : ℕ). drop m bs) e)
+
+pub read-turn : (bs : List ℕ) (n i : ℕ) (ps : List Port) (cs : List Copies) (p : Port) (c : Copies) → n ≤ room → i < n → Reading bs n i ps cs
+    → p ≡ portOf (unpack portWidths (drop (portPlace i) bs))
+    → c ≡ copiesOf (unpack copiesWidths (drop (copiesPlace n i) bs))
+    → Reading bs n (i + 1) (set ps i p) (set cs i c)
+read-turn bs n i ps cs p c m h r e g =
+    record {
+      upto = omega arith;
+      ports = rw (r .ports, e, port-there i bs) (fill-turn portOf noPort portWidths (drop (portPlace 0) bs) i (omega arith));
+      copies = rw (r .copies, g, copies-there n i bs) (fill-turn copiesOf noCopies copiesWidths (drop (copiesPlace n 0) bs) i (omega arith));
+    }
+
+-- what is read is what the definition says
+abbrev madeIn : ℕ → List ℕ → Made
+madeIn d bs =
+    record {
+      table =
+          record {
+            ports = filled portOf noPort portWidths (drop (portPlace 0) bs) d;
+            copies = filled copiesOf noCopies copiesWidths (drop (copiesPlace d 0) bs) d;
+            shared = sharedIn d bs;
+          };
+      answer = answerIn d;
+    }
+
+is-image : (d : ℕ) (bs : List ℕ) → 1 ≤ d → madeIn d bs ≡ record { table = held d bs; answer = Done }
+unfolding held sharedIn answerIn
+is-image d bs h = rw (ne-eqb d 0 (λ e. absurd (omega (arith, e))))
+
+no-image : (bs : List ℕ) → madeIn 0 bs ≡ refused BadImage
+unfolding freshTable sharedIn answerIn unpacks
+no-image bs = rw (sub-zero room)
+
+made-opened : (bs : List ℕ) → madeIn (portsIn bs) bs ≡ opened bs
+unfolding portsIn opened held
+made-opened bs = go (isImage bs) refl
+  where
+    go : (b : Bool) → isImage bs ≡ b → madeIn (cond b (dIn bs) 0) bs ≡ cond b (record { table = held (dIn bs) bs; answer = Done }) (refused BadImage)
+    go true e = is-image (dIn bs) bs (image-tests bs e .some)
+    go false e = no-image bs
+
+pub read-end : (bs : List ℕ) (d i : ℕ) (ps : List Port) (cs : List Copies) (s : Shared) (a : Answer) → d ≡ portsIn bs → d ≤ i → Reading bs d i ps cs
+    → s ≡ sharedIn d bs → a ≡ answerIn d
+    → record { table = record { ports = ps; copies = cs; shared = s }; answer = a } ≡ opened bs
+read-end bs d i ps cs s a e h r p q =
+    let k : i ≡ d = omega (arith, r .upto) in
+    rw (r .ports, r .copies, p, q, k, e) (made-opened bs)
+
+-- the check after reading
+module _ (bs : List ℕ) (m : Made) (e : m ≡ opened bs) where
+  pub read-refused : (numberOf (m .answer) ≡ 0 → ⊥) → m ≡ decode bs
+  unfolding opened decode
+  read-refused h = go (isImage bs) refl
+    where
+      go : (b : Bool) → isImage bs ≡ b → m ≡ decode bs
+      go true q = absurd (h (rw (e, q)))
+      go false q = e ∙ rw q
+
+  image-open : (b : Bool) → isImage bs ≡ b → numberOf (m .answer) ≡ 0 → (isImage bs ≡ true) × (m ≡ record { table = held (dIn bs) bs; answer = Done })
+  unfolding opened
+  image-open true q h = (q, e ∙ rw q)
+  image-open false q h = absurd (number-eleven (rw (e, q) at h))
+    where
+      number-eleven : _≡_ {A = ℕ} 11 0 → ⊥
+      number-eleven z = omega (arith, z)
+
+  pub read-good : numberOf (m .answer) ≡ 0 → good (m .table) ≡ true → m ≡ decode bs
+  unfolding decode
+  read-good h g =
+      let i = image-open (isImage bs) refl h in
+      let k : good (held (dIn bs) bs) ≡ true = rw (i .1) at g in
+      i .1 ∙ rw (i .0, k)
+
+  pub read-bad : numberOf (m .answer) ≡ 0 → good (m .table) ≡ false → refused BadTable ≡ decode bs
+  unfolding decode
+  read-bad h g =
+      let i = image-open (isImage bs) refl h in
+      let k : good (held (dIn bs) bs) ≡ false = rw (i .1) at g in
+      rw (i .0, k)
