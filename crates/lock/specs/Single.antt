@@ -84,7 +84,7 @@ decoded o h =
 abbrev pub single : ℕ → ℕ → List Order
 single k e = ordersFor (k ∷ e ∷ []) (1 ∷ [])
 
-bad-event : (t : Table) (k e : ℕ) → good t ≡ false → event t k e ≡ free BadTable t
+pub bad-event : (t : Table) (k e : ℕ) → good t ≡ false → event t k e ≡ free BadTable t
 unfolding event
 bad-event t k e h = rw h
 

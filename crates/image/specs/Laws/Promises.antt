@@ -42,7 +42,7 @@ encode-bytes t =
     bytes-append (pack headWidths (headValues (t .shared .d))) _ h spck
 
 -- a table whose D is at most the room, and bytes enough
-put-done : (t : Table) (out : List ℕ) (w : Written) (next : List ℕ) → t .shared .d ≤ room → size (t .shared .d) ≤ length out → Puts t out w next
+pub put-done : (t : Table) (out : List ℕ) (w : Written) (next : List ℕ) → t .shared .d ≤ room → size (t .shared .d) ≤ length out → Puts t out w next
     → (w ≡ record { length = size (t .shared .d); answer = Done }) × (next ≡ sets out 0 (encode t))
 unfolding written roomAfter
 put-done t out w next h k p =

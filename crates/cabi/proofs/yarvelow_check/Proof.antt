@@ -1,0 +1,14 @@
+use borrow.Author.Needs.{needs}
+use mathlib.Core.Path.{ap, _∙_}
+use Rattle.model.specs.declared.Made.{Made}
+use Rattle.model.specs.Event.{numberOf}
+use Rattle.cabi.specs.Calls.{checkCall}
+use Rattle.cabi.proofs.yarvelow_check.Statement.{statement}
+use Rattle.cabi.proofs.yarvelow_check.Tie as tie
+
+returns : tie.Need-returns
+unfolding checkCall
+returns c = c .number .ensures ∙ ap (λ (m : Made). numberOf (m .answer)) (c .before .read .ensures)
+
+pub yarvelow-check-spec : {M : Type 1} → statement M
+yarvelow-check-spec = tie.close (tie.spec (λ c κs. search needs) (λ c κs. search needs) returns)
