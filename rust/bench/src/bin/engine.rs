@@ -1,0 +1,109 @@
+//! The engine by itself, over the archive of the proved crate `bench`: checked events, and events in a run with one check.
+
+use bench::command;
+use bench::job::{packed, Answers, Job, Task};
+use bench::stack::pointer;
+use std::process::ExitCode;
+
+extern "C" {
+    /// From the fresh table of `d` ports, each order by an event of its own with its own check.
+    fn bench_events(
+        d: u64,
+        orders: *const u64,
+        orders_length: usize,
+        answers: *mut u64,
+        answers_length: usize,
+    ) -> u64;
+    /// The same orders in one run with one check.
+    fn bench_run(
+        d: u64,
+        orders: *const u64,
+        orders_length: usize,
+        answers: *mut u64,
+        answers_length: usize,
+    ) -> u64;
+}
+
+// SAFETY of both calls: pointers and lengths are those of slices that are lent for the call.
+fn events(task: &Task, answers: &mut Answers) {
+    let (orders, numbers) = (&task.orders, &mut answers.numbers);
+    unsafe {
+        bench_events(
+            task.d,
+            orders.as_ptr(),
+            orders.len(),
+            numbers.as_mut_ptr(),
+            numbers.len(),
+        );
+    }
+}
+
+fn run(task: &Task, answers: &mut Answers) {
+    let (orders, numbers) = (&task.orders, &mut answers.numbers);
+    unsafe {
+        bench_run(
+            task.d,
+            orders.as_ptr(),
+            orders.len(),
+            numbers.as_mut_ptr(),
+            numbers.len(),
+        );
+    }
+}
+
+fn reference_events(task: &Task, answers: &mut Answers) {
+    let (_, mut table) = reference::fresh(task.d);
+    for (order, answer) in task.orders.chunks_exact(2).zip(&mut answers.numbers) {
+        *answer = packed(reference::event(&mut table, order[0], order[1]));
+    }
+}
+
+fn reference_run(task: &Task, answers: &mut Answers) {
+    let (_, mut table) = reference::fresh(task.d);
+    if !reference::good(&table) {
+        return;
+    }
+    for (order, answer) in task.orders.chunks_exact(2).zip(&mut answers.numbers) {
+        *answer = packed(reference::event_unchecked(&mut table, order[0], order[1]));
+    }
+}
+
+fn all_events(task: &Task, answers: &mut Answers) -> usize {
+    events(task, answers);
+    pointer()
+}
+
+fn all_run(task: &Task, answers: &mut Answers) -> usize {
+    run(task, answers);
+    pointer()
+}
+
+/// Checked events at `d` ports.
+const fn checked(name: &'static str, d: u64) -> Job {
+    Job {
+        name,
+        d,
+        reads: false,
+        ours: events,
+        reference: reference_events,
+    }
+}
+
+fn main() -> ExitCode {
+    let unchecked = Job {
+        name: "run-16",
+        d: 16,
+        reads: false,
+        ours: run,
+        reference: reference_run,
+    };
+    command::main(
+        &[
+            checked("event-1", 1),
+            checked("event-4", 4),
+            checked("event-16", 16),
+            unchecked,
+        ],
+        &[("bench_events", all_events), ("bench_run", all_run)],
+    )
+}
