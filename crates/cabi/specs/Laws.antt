@@ -2,7 +2,7 @@
 use mathlib.Core.Path.{_≡_, refl, sym, ap, _∙_}
 use mathlib.Core.Bool.{Bool, true, false, cond}
 use mathlib.Core.List.{List, [], _∷_}
-use Prim.Native.Nat.{ℕ, suc, _+_, _*_, _≤_, _<_}
+use Prim.Native.Nat.{ℕ, suc, _+_, _*_, _%_, _≤_, _<_}
 use native.Mathlib.Omega.{arith}
 use borrow.Author.Tests.{eqb-false, eq-eqb, ne-eqb}
 use lib.Dec.{eqb}
@@ -21,8 +21,8 @@ use Rattle.model.specs.Laws.Cases.{refused-free}
 use Rattle.model.specs.Laws.After.{after-sized, after-d}
 use Rattle.model.specs.Laws.Rules.{shared-rules}
 use Rattle.model.specs.Laws.Kept.{good-after, made-good, ran-sized, ran-d}
-use Rattle.lock.specs.Turns.{free-code, done-code}
-use Rattle.lock.specs.Single.{bad-event}
+use Rattle.lock.specs.Turns.{free-code}
+use Rattle.lock.specs.Single.{bad-event, code-number}
 use Rattle.image.specs.declared.Written.{Written}
 use Rattle.image.specs.Bytes.{Bytes}
 use Rattle.image.specs.Layout.{size}
@@ -110,33 +110,40 @@ module _ (bs : List ℕ) (h : opened bs .answer ≡ Done) (k e : ℕ) where
   unfolding checkCall
   event-on-bad g = (rw (bad-event (opened bs .table) k e g, bad-table bs h g), rw (bad-table bs h g))
 
-  -- refused
-  pub event-refused : (numberOf (event (opened bs .table) k e .answer) ≡ 0 → ⊥)
-      → (numberOf (event (opened bs .table) k e .answer) ≡ eventCall bs k e) × (bs ≡ eventImage bs k e)
-  event-refused n = go (good (opened bs .table)) refl
+  -- what it answers is the event's code
+  event-code : eventCall bs k e ≡ codeOf (event (opened bs .table) k e)
+  unfolding codeOf
+  event-code = go (good (opened bs .table)) refl
     where
-      go : (b : Bool) → good (opened bs .table) ≡ b → (numberOf (event (opened bs .table) k e .answer) ≡ eventCall bs k e) × (bs ≡ eventImage bs k e)
-      go false g = event-unread bs k e _ (event-on-bad g)
-      go true g =
-          let r = event-on-good g in
-          let f = refused-free (opened bs .table) k e n in (
-            free-code (event (opened bs .table) k e .answer) (opened bs .table) ∙ ap codeOf (sym f) ∙ sym (r .0),
-            sym (r .1 ∙ rw (ne-eqb (numberOf (event (opened bs .table) k e .answer)) 0 n)),
-          )
+      go : (b : Bool) → good (opened bs .table) ≡ b → eventCall bs k e ≡ codeOf (event (opened bs .table) k e)
+      go true g = event-on-good g .0
+      go false g =
+          let f = bad-event (opened bs .table) k e g in
+          sym (event-unread bs k e _ (event-on-bad g) .0) ∙ ap (λ (o : Outcome). numberOf (o .answer)) f ∙ sym (ap codeOf f)
 
-  -- done: the image of the table after it stands where the image stood
-  pub event-done : numberOf (event (opened bs .table) k e .answer) ≡ 0 → (w : Written) (next : List ℕ) → Puts (event (opened bs .table) k e .table) bs w next
-      → (256 * event (opened bs .table) k e .cached + 65536 * event (opened bs .table) k e .distributed ≡ eventCall bs k e) × (next ≡ eventImage bs k e)
-  event-done n w next p = go (good (opened bs .table)) refl
-    where
-      go : (b : Bool) → good (opened bs .table) ≡ b
-          → (256 * event (opened bs .table) k e .cached + 65536 * event (opened bs .table) k e .distributed ≡ eventCall bs k e) × (next ≡ eventImage bs k e)
-      go false g = absurd (some 0 (ap (λ (o : Outcome). numberOf (o .answer)) (sym (bad-event (opened bs .table) k e g)) ∙ n))
-      go true g =
-          let r = event-on-good g in (
-            done-code (event (opened bs .table) k e) n ∙ sym (r .0),
-            put-back bs h (after (opened bs .table) (order k e)) (after-sized (opened bs .table) (order k e) (opened-sized bs h)) (after-d (opened bs .table) (order k e)) w next p ∙ sym (r .1 ∙ rw (eq-eqb (numberOf (event (opened bs .table) k e .answer)) 0 n)),
-          )
+  module _ (n : ℕ) (c : n ≡ codeOf (event (opened bs .table) k e)) where
+    its-number : n % 256 ≡ numberOf (event (opened bs .table) k e .answer)
+    its-number = ap (λ (m : ℕ). m % 256) c ∙ code-number (event (opened bs .table) k e)
+
+    -- refused
+    pub event-refused : (n % 256 ≡ 0 → ⊥) → (n ≡ eventCall bs k e) × (bs ≡ eventImage bs k e)
+    event-refused z = (c ∙ sym event-code, go (good (opened bs .table)) refl)
+      where
+        go : (b : Bool) → good (opened bs .table) ≡ b → bs ≡ eventImage bs k e
+        go false g = event-unread bs k e _ (event-on-bad g) .1
+        go true g =
+            sym (event-on-good g .1 ∙ rw (ne-eqb (numberOf (event (opened bs .table) k e .answer)) 0 (λ q. z (its-number ∙ q))))
+
+    -- done: the image of the table after it stands where the image stood
+    pub event-done : n % 256 ≡ 0 → (w : Written) (next : List ℕ) → Puts (event (opened bs .table) k e .table) bs w next
+        → (n ≡ eventCall bs k e) × (next ≡ eventImage bs k e)
+    event-done z w next p = (c ∙ sym event-code, go (good (opened bs .table)) refl)
+      where
+        go : (b : Bool) → good (opened bs .table) ≡ b → next ≡ eventImage bs k e
+        go false g = absurd (some 0 (ap (λ (o : Outcome). numberOf (o .answer)) (sym (bad-event (opened bs .table) k e g)) ∙ sym its-number ∙ z))
+        go true g =
+            put-back bs h (after (opened bs .table) (order k e)) (after-sized (opened bs .table) (order k e) (opened-sized bs h)) (after-d (opened bs .table) (order k e)) w next p
+            ∙ sym (event-on-good g .1 ∙ rw (eq-eqb (numberOf (event (opened bs .table) k e .answer)) 0 (sym its-number ∙ z)))
 
 -- yarvelow_fresh: refused for its size, or written
 module _ (d : ℕ) (out : List ℕ) where
@@ -186,6 +193,15 @@ pub calls-unread : (bs : List ℕ) (os : List Order) → accepted bs ≡ false �
 unfolding callsImage eventImage
 calls-unread bs [] h = refl
 calls-unread bs (o ∷ os) h = rw h (calls-unread bs os h)
+
+-- yarvelow_check where the bytes are an image: a run of no orders looks at the table
+pub check-open : (bs : List ℕ) (os : List Order) → opened bs .answer ≡ Done → numberOf (run (opened bs .table) os .answer) ≡ checkCall bs
+unfolding run checkCall
+check-open bs os h = go (good (opened bs .table)) refl
+  where
+    go : (b : Bool) → good (opened bs .table) ≡ b → numberOf (run (opened bs .table) os .answer) ≡ checkCall bs
+    go true g = rw (g, good-table bs h g)
+    go false g = rw (g, bad-table bs h g)
 
 -- yarvelow_run where the reader refuses
 pub run-unread : (bs : List ℕ) (os : List Order) (places : List ℕ) (n : ℕ) → (n ≡ checkCall bs) × (accepted bs ≡ false)

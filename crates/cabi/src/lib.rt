@@ -9,6 +9,8 @@ ghost use lib.ListN.{length};
 ghost use Rattle.model.specs.Run.{ordersFor};
 ghost use Rattle.cabi.specs.Calls as Calls;
 
+const BAD_TABLE: u64 = 1;
+
 // Writes the image of a fresh table of d ports: number + 256 * length. Refused (9, then 10): the room is untouched, length 0.
 #[no_mangle]
 pub extern "C" fn yarvelow_fresh(d: u64, room: &mut [u8]) -> u64
@@ -27,18 +29,27 @@ pub extern "C" fn yarvelow_fresh(d: u64, room: &mut [u8]) -> u64
     answers::number(a) + 256 * (w.length as u64)
 }
 
-// The reader's number for an image.
+// The reader's number for an image. A run of no orders looks at its table.
 #[no_mangle]
 pub extern "C" fn yarvelow_check(image: &[u8]) -> u64
     ensures { λ r. ⌜ r ≡ Calls.checkCall (now (image .entry)) ⌝ }
 {
-    let m = reader::read(image);
+    let m = reader::open(image);
     let answer = m.answer;
-    answers::number(answer)
+    let bad = answers::number(answer);
+    if bad != 0 {
+        return bad;
+    }
+    let table = m.table;
+    let none: [u64; 1] = [0];
+    let mut places: [u64; 1] = [0];
+    let r = runs::run(table, &none, &mut places);
+    let checked = r.answer;
+    answers::number(checked)
 }
 
 // An event on an image, changed where it stands: number + 256 * cached + 65536 * distributed. Refused, by the reader and then by the event: every byte is as
-// it was.
+// it was. It is a run of one order; BAD TABLE stands for its answer until the run answers it.
 #[no_mangle]
 pub extern "C" fn yarvelow_event(image: &mut [u8], port: u64, event: u64) -> u64
     ensures { λ r. ⌜ r ≡ Calls.eventCall (now (image .entry)) port event ⌝ }
@@ -51,15 +62,16 @@ pub extern "C" fn yarvelow_event(image: &mut [u8], port: u64, event: u64) -> u64
         return bad;
     }
     let table = m.table;
-    let o = events::event(table, port, event);
-    let a = o.answer;
-    let refused = answers::number(a);
-    if refused != 0 {
-        return refused;
+    let orders = [port, event];
+    let mut places = [BAD_TABLE];
+    let r = runs::run(table, &orders, &mut places);
+    let code = places[0];
+    if code % 256 != 0 {
+        return code;
     }
-    let after = o.table;
+    let after = r.table;
     writer::put(after, image);
-    256 * o.cached + 65536 * o.distributed
+    code
 }
 
 // As many events on an image as there are pairs of port and event and places for their answers, with one check of its table: answers[i] is what

@@ -5,7 +5,7 @@ use mathlib.Core.List.{List}
 use Prim.Native.Nat.{ℕ, _≤_, _<_, _^_}
 use lib.ListN.{set}
 use lib.Seq.{set-getD}
-use borrow.Author.Tests.{lt-leb, eq-eqb, ne-eqb}
+use borrow.Author.Tests.{eq-eqb, ne-eqb}
 use Rattle.model.specs.declared.Port.{Port}
 use Rattle.model.specs.declared.Copies.{Copies}
 use Rattle.model.specs.declared.Shared.{Shared}
@@ -16,23 +16,15 @@ use Rattle.model.specs.declared.Touch.{Touch}
 use Rattle.model.specs.declared.Charge.{Charge}
 use Rattle.model.specs.declared.Left.{Left}
 use Rattle.model.specs.declared.Outcome.{Outcome}
-use Rattle.model.specs.declared.Answer.{Answer}
 use Rattle.model.specs.declared.Answer.the-variants.{Done}
 use Rattle.model.specs.Table.{most, noPort, noCopies, portIn, portAt, copiesAt, putPort}
 use Rattle.model.specs.Points.{pointOf, settled}
 use Rattle.model.specs.Step.{withValue, step}
-use Rattle.model.specs.Good.{good}
 use Rattle.model.specs.Cost.{old, charge}
-use Rattle.model.specs.Event.{numberOf, firstOf, refusals, refusal, ordered, sharedAfter, copiesAfter, touchOf, homeOf, viewOf, moveOf, chargeOf, marked, stepped, free, carried, eventGood, event}
+use Rattle.model.specs.Event.{numberOf, ordered, sharedAfter, copiesAfter, touchOf, homeOf, viewOf, moveOf, chargeOf, marked, stepped, free, carried}
+use Rattle.model.specs.Paid.{paidAnswer, paidEvent}
 
--- what an event may count on, of what it sees on a good table; and a step that no refusal stands against
-pub record Sound (v : View) : Type 0 where
-  pub ports : v .d ≤ 64
-  pub port : v .k < v .d
-  pub seen : v .own .work .seenowner < v .d
-  pub bits : v .active < 2 ^ (v .d)
-  pub made : v .own .made ≤ most
-
+-- what a step may count on, of what it sees
 pub record Sight (v : View) : Type 0 where
   pub ports : v .d ≤ 64
   pub port : v .k < v .d
@@ -99,20 +91,19 @@ module _ (t : Table) (k : ℕ) where
       (set (t .ports) k (settled (moveOf t k .own)))
       (homeOf t k))
 
--- an event on a good table at a port that there is: refused, an order, or a step
-module _ (t : Table) (k e : ℕ) (g : good t ≡ true) (h : k < t .shared .d) where
-  pub refused : (a : Answer) → a ≡ firstOf (refusals e (portAt t k)) → (numberOf a ≡ 0 → ⊥) → event t k e ≡ free a t
-  unfolding event eventGood refusal
-  refused a p n = rw (g, lt-leb (t .shared .d) k h, ← p, ne-eqb (numberOf a) 0 n)
+-- an order, by what it answers before anything is changed: refused, an event that is no step, or a step
+module _ (t : Table) (k e : ℕ) where
+  pub refused : (numberOf (paidAnswer (t .shared) k e (portAt t k)) ≡ 0 → ⊥) → paidEvent t k e ≡ free (paidAnswer (t .shared) k e (portAt t k)) t
+  unfolding paidEvent
+  refused n = rw (ne-eqb (numberOf (paidAnswer (t .shared) k e (portAt t k))) 0 n)
 
-  pub obeyed : (a : Answer) → a ≡ firstOf (refusals e (portAt t k)) → numberOf a ≡ 0 → (e ≡ 2 → ⊥)
-      → event t k e ≡ free Done (putPort t k (ordered e (portAt t k)))
-  unfolding event eventGood refusal carried
-  obeyed a p z n = rw (g, lt-leb (t .shared .d) k h, ← p, eq-eqb (numberOf a) 0 z, ne-eqb e 2 n)
+  module _ (z : numberOf (paidAnswer (t .shared) k e (portAt t k)) ≡ 0) where
+    pub obeyed : (e ≡ 2 → ⊥) → paidEvent t k e ≡ free Done (putPort t k (ordered e (portAt t k)))
+    unfolding paidEvent carried
+    obeyed n = rw (eq-eqb (numberOf (paidAnswer (t .shared) k e (portAt t k))) 0 z, ne-eqb e 2 n)
 
-  pub moved : (a : Answer) → a ≡ firstOf (refusals e (portAt t k)) → numberOf a ≡ 0 → e ≡ 2
-      → (j : ℕ) (l : Left) → j ≡ homeOf t k → l ≡ steppedOn (touchOf t k) (t .shared) k (portAt t k) (portAt t j) (copiesAt t j)
-      → assembled t k j l ≡ event t k e
-  unfolding event eventGood refusal carried
-  moved a p z s j l x y =
-      rw (g, lt-leb (t .shared .d) k h, ← p, eq-eqb (numberOf a) 0 z, eq-eqb e 2 s) (rw (y, x) (assembled-step t k))
+    pub moved : e ≡ 2 → (j : ℕ) (l : Left) → j ≡ homeOf t k → l ≡ steppedOn (touchOf t k) (t .shared) k (portAt t k) (portAt t j) (copiesAt t j)
+        → assembled t k j l ≡ paidEvent t k e
+    unfolding paidEvent carried
+    moved s j l x y =
+        rw (eq-eqb (numberOf (paidAnswer (t .shared) k e (portAt t k))) 0 z, eq-eqb e 2 s) (rw (y, x) (assembled-step t k))

@@ -104,3 +104,12 @@ run-of-one t k e r a n p q h =
     let d = decoded (event t k e) (omega (arith, event-cost t k e .0)) in
     let o = one-code t k e (good t) refl in
     rw (h, q, p, o .0, o .1, sym (d .0), sym (d .1), sym (d .2))
+
+-- the same of its table and its code; the number of an answer from its code
+pub run-one : (t : Table) (k e : ℕ)
+    → (run t (single k e) .table ≡ event t k e .table) × (getD (runAnswers t (single k e) (1 ∷ [])) 0 0 ≡ codeOf (event t k e))
+run-one t k e = one-code t k e (good t) refl
+
+pub code-number : (o : Outcome) → codeOf o % 256 ≡ numberOf (o .answer)
+unfolding codeOf
+code-number o = omega (arith, number-small (o .answer))

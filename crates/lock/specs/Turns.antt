@@ -18,20 +18,12 @@ use Rattle.model.specs.declared.Answer.{Answer}
 use Rattle.model.specs.declared.Answer.the-variants.{Done, BadTable}
 use Rattle.model.specs.Table.{Sized}
 use Rattle.model.specs.Good.{good}
-use Rattle.model.specs.Event.{numberOf, sharedAfter, copiesAfter, free, event}
-use Rattle.model.specs.Run.{Order, order, answered, after, ran, orders, codeOf, codes, run, runAnswers}
-use Rattle.model.specs.Laws.After.{after-sized}
-use Rattle.model.specs.Laws.Kept.{good-after}
+use Rattle.model.specs.Event.{numberOf, sharedAfter, copiesAfter, free}
+use Rattle.model.specs.Run.{Order, order, orders, codeOf, run, runAnswers}
+use Rattle.model.specs.Paid.{paidEvent, paidRan, paidCodes}
+use Rattle.model.specs.Laws.Paid.{paid-sized, paid-ran, paid-codes}
 use Rattle.model.specs.Laws.Fees.{charge-cost}
 use Rattle.lock.specs.Sight.{moveOn, steppedOn}
-use Rattle.lock.specs.Ready.{no-port}
-
--- an order at a port that there isn't answers 2 and changes nothing
-pub unanswered : (t : Table) (k e : ℕ) → good t ≡ true → t .shared .d ≤ k → (t ≡ event t k e .table) × (2 ≡ codeOf (event t k e))
-unfolding codeOf
-unanswered t k e g h =
-    let n = no-port t k e g h in
-    (ap (λ (r : Outcome). r .table) (sym n), ap codeOf (sym n))
 
 -- the code of an answer without costs is its number; that of one that is DONE has its costs alone
 pub free-code : (a : Answer) (t : Table) → numberOf a ≡ codeOf (free a t)
@@ -71,45 +63,48 @@ next-order n i xs h =
 pub record Running (xs : List ℕ) (n : ℕ) (t₀ : Table) (a₀ : List ℕ) (i : ℕ) (t : Table) (a : List ℕ) : Type 0 where
   pub upto : i ≤ n
   pub sized : Sized t
-  pub good-yet : good t ≡ true
   pub long : length a ≡ length a₀
-  pub table : ran t (orders (n - i) (drop (2 * i) xs)) ≡ ran t₀ (orders n xs)
-  pub text : sets a i (codes t (orders (n - i) (drop (2 * i) xs))) ≡ sets a₀ 0 (codes t₀ (orders n xs))
+  pub table : paidRan t (orders (n - i) (drop (2 * i) xs)) ≡ paidRan t₀ (orders n xs)
+  pub text : sets a i (paidCodes t (orders (n - i) (drop (2 * i) xs))) ≡ sets a₀ 0 (paidCodes t₀ (orders n xs))
 
 module _ (xs : List ℕ) (n : ℕ) (t₀ : Table) (a₀ : List ℕ) where
-  pub begins : Sized t₀ → good t₀ ≡ true → Running xs n t₀ a₀ 0 t₀ a₀
-  begins s g = record { upto = omega arith; sized = s; good-yet = g; long = refl; table = rw (sub-zero n); text = rw (sub-zero n) }
+  pub begins : Sized t₀ → Running xs n t₀ a₀ 0 t₀ a₀
+  begins s = record { upto = omega arith; sized = s; long = refl; table = rw (sub-zero n); text = rw (sub-zero n) }
 
   pub turns : (i : ℕ) (t u : Table) (a : List ℕ) (c : ℕ) → i < n → Running xs n t₀ a₀ i t a
-      → u ≡ event t (getD xs (2 * i) 0) (getD xs (2 * i + 1) 0) .table
-      → c ≡ codeOf (event t (getD xs (2 * i) 0) (getD xs (2 * i + 1) 0))
+      → u ≡ paidEvent t (getD xs (2 * i) 0) (getD xs (2 * i + 1) 0) .table
+      → c ≡ codeOf (paidEvent t (getD xs (2 * i) 0) (getD xs (2 * i + 1) 0))
       → Running xs n t₀ a₀ (i + 1) u (set a i c)
-  unfolding ran codes
+  unfolding paidRan paidCodes
   turns i t u a c h r p q =
       let o = order (getD xs (2 * i) 0) (getD xs (2 * i + 1) 0) in
       record {
         upto = omega arith;
-        sized = rw p (after-sized t o (r .sized));
-        good-yet = rw p (good-after t o (r .sized) (r .good-yet));
+        sized = rw p (paid-sized t (o .port) (o .event) (r .sized));
         long = length-set a i c ∙ r .long;
         table = rw p (rw (next-order n i xs h) at (r .table));
         text =
             rw (p, q)
             (ap
-            (λ (j : ℕ). sets (set a i (codeOf (answered t o))) j (codes (after t o) (orders (n - (i + 1)) (drop (2 * (i + 1)) xs))))
+            (λ (j : ℕ). sets (set a i (codeOf (paidEvent t (o .port) (o .event)))) j (paidCodes (paidEvent t (o .port) (o .event) .table) (orders (n - (i + 1)) (drop (2 * (i + 1)) xs))))
             (add-one i)
             ∙ (rw (next-order n i xs h) at (r .text)));
       }
 
-  pub ends : (i : ℕ) (t : Table) (a : List ℕ) → good t₀ ≡ true → n ≤ i → Running xs n t₀ a₀ i t a
-      → (record { table = t; answer = Done } ≡ run t₀ (orders n xs)) × (a ≡ runAnswers t₀ (orders n xs) a₀)
-  unfolding ran codes orders run runAnswers
-  ends i t a g h r =
+  pub ends : (i : ℕ) (t : Table) (a : List ℕ) → n ≤ i → Running xs n t₀ a₀ i t a
+      → (t ≡ paidRan t₀ (orders n xs)) × (a ≡ sets a₀ 0 (paidCodes t₀ (orders n xs)))
+  unfolding paidRan paidCodes orders
+  ends i t a h r =
       let e : n - i ≡ 0 = omega arith in
-      (rw (g, ← (r .table), e), rw g (rw e at (r .text)))
+      (rw e at (r .table), rw e at (r .text))
 
--- a bad table is refused, and nothing is changed
-pub refuses : (t : Table) (os : List Order) (a : List ℕ) → good t ≡ false
-    → (record { table = t; answer = BadTable } ≡ run t os) × (a ≡ runAnswers t os a)
-unfolding run runAnswers
-refuses t os a g = (rw g, rw g)
+-- a bad table is refused, and nothing is changed; on a good one the check is paid
+module _ (t : Table) (os : List Order) (a : List ℕ) where
+  pub refuses : good t ≡ false → (record { table = t; answer = BadTable } ≡ run t os) × (a ≡ runAnswers t os a)
+  unfolding run runAnswers
+  refuses g = (rw g, rw g)
+
+  pub pays : Sized t → good t ≡ true → (u : Table) (b : List ℕ) → u ≡ paidRan t os → b ≡ sets a 0 (paidCodes t os)
+      → (record { table = u; answer = Done } ≡ run t os) × (b ≡ runAnswers t os a)
+  unfolding run runAnswers
+  pays s g u b p q = (rw (g, p, paid-ran t os s g), rw (g, q, paid-codes t os s g))

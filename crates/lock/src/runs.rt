@@ -4,12 +4,22 @@ use crate::costs;
 use answers::STEP;
 use model::Answer;
 use model::Made;
+use model::Port;
+use model::ROOM;
+use model::Shared;
 use model::Table;
+use points::masks;
 use points::places;
 use rules::good;
 ghost use mathlib.Core.Path.{_≡_};
 ghost use Prim.Native.Nat.{ℕ, _+_, _*_, _<_, min};
+ghost use lib.Seq.{sets};
+ghost use Rattle.model.specs.Table.{room};
+ghost use Rattle.model.specs.Event.{numberOf};
 ghost use Rattle.model.specs.Run as Run;
+ghost use Rattle.model.specs.Paid as Paid;
+
+const BAD_TABLE: u64 = 1;
 
 const NO_SUCH_PORT: u64 = 2;
 
@@ -27,33 +37,54 @@ fn code(cached: u64, distributed: u64) -> u64
     256 * cached + 65536 * distributed
 }
 
-// Carries out as many orders as there are pairs of port and event and places for their answers; answers[i] is what order i answers: its number, 256 times
-// its cached and 65,536 times its distributed cost. Gives the table after the last. A bad table is refused, and nothing is changed.
-pub fn run(mut table: Table, orders: &[u64], answers: &mut [u64]) -> Made
-    ensures { λ r. ⌜ r ≡ Run.run table (Run.ordersFor (now (orders .entry)) (now (answers .entry))) ⌝ }
-    ensures { λ r. ⌜ now (answers .exit) ≡ Run.runAnswers table (Run.ordersFor (now (orders .entry)) (now (answers .entry))) (now (answers .entry)) ⌝ }
+// The place of port k in the table; any place where there is no such port.
+fn slot(k: u64) -> usize
+    ensures { λ r. ⌜ (r < room) × (k < room → r ≡ k) ⌝ }
 {
-    if !good::good(table) {
-        return Made {
-            table,
-            answer: Answer::BadTable,
-        };
+    if k < ROOM as u64 { k as usize } else { 0 }
+}
+
+// What a step needs of its port.
+fn placed(d: u64, p: Port) -> bool
+    ensures { λ r. ⌜ r ≡ Paid.placed d p ⌝ }
+{
+    ((p.work.seenowner as u64) < d) & ((p.work.candidate as u64) < d) & (p.made <= good::MOST)
+}
+
+// The number that an order answers before anything is changed, from what all share and its port.
+fn answer(s: Shared, k: u64, event: u64, p: Port) -> u64
+    ensures { λ r. ⌜ r ≡ numberOf (Paid.paidAnswer s k event p) ⌝ }
+{
+    let d = s.d;
+    if !(good::size_good(d) & masks::within(d, s.active)) {
+        return BAD_TABLE;
     }
+    if d <= k {
+        return NO_SUCH_PORT;
+    }
+    if !placed(d, p) {
+        return BAD_TABLE;
+    }
+    let a = answers::refusal(event, p);
+    answers::number(a)
+}
+
+// Carries out orders on a table whose check has been paid: as many as there are pairs of port and event and places for their answers. answers[i] is what
+// order i answers: its number, 256 times its cached and 65,536 times its distributed cost. Gives the table after the last.
+pub fn carry(mut table: Table, orders: &[u64], answers: &mut [u64]) -> Table
+    ensures { λ r. ⌜ r ≡ Paid.paidRan table (Run.ordersFor (now (orders .entry)) (now (answers .entry))) ⌝ }
+    ensures { λ r. ⌜ now (answers .exit) ≡ sets (now (answers .entry)) 0 (Paid.paidCodes table (Run.ordersFor (now (orders .entry)) (now (answers .entry)))) ⌝ }
+{
     let n = least(orders.len() / 2, answers.len());
     let mut i: usize = 0;
     while i < n {
         let port = orders[2 * i];
         let event = orders[2 * i + 1];
-        if table.shared.d <= port {
-            answers[i] = NO_SUCH_PORT;
-            i += 1;
-            continue;
-        }
-        let k = port as usize;
+        let k = slot(port);
         let own = table.ports[k];
-        let answer = answers::number(answers::refusal(event, own));
-        if answer != 0 {
-            answers[i] = answer;
+        let number = answer(table.shared, port, event, own);
+        if number != 0 {
+            answers[i] = number;
             i += 1;
             continue;
         }
@@ -79,8 +110,23 @@ pub fn run(mut table: Table, orders: &[u64], answers: &mut [u64]) -> Made
         answers[i] = code(l.cached, l.distributed);
         i += 1;
     }
+    table
+}
+
+// Carries out orders on any table, with one check of it. A bad table is refused, and nothing is changed.
+pub fn run(table: Table, orders: &[u64], answers: &mut [u64]) -> Made
+    ensures { λ r. ⌜ r ≡ Run.run table (Run.ordersFor (now (orders .entry)) (now (answers .entry))) ⌝ }
+    ensures { λ r. ⌜ now (answers .exit) ≡ Run.runAnswers table (Run.ordersFor (now (orders .entry)) (now (answers .entry))) (now (answers .entry)) ⌝ }
+{
+    if !good::good(table) {
+        return Made {
+            table,
+            answer: Answer::BadTable,
+        };
+    }
+    let after = carry(table, orders, answers);
     Made {
-        table,
+        table: after,
         answer: Answer::Done,
     }
 }

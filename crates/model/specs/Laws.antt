@@ -18,6 +18,7 @@ pub mod KeptPorts
 pub mod KeptOrdered
 pub mod KeptStep
 pub mod Kept
+pub mod Paid
 pub mod Life
 pub mod LifeAfter
 pub mod Changes

@@ -8,6 +8,7 @@ pub mod Step
 pub mod Cost
 pub mod Event
 pub mod Run
+pub mod Paid
 pub mod Laws
 pub mod Statements
 pub mod Samples

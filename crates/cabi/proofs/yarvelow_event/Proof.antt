@@ -1,12 +1,14 @@
 use borrow.Author.Needs.{needs}
 use mathlib.Core.Path.{_≡_, sym, ap, subst, _∙_}
-use Prim.Native.Nat.{ℕ, _≤_}
-use native.Mathlib.Omega.{arith}
+use mathlib.Core.List.{List, [], _∷_}
+use Prim.Native.Nat.{ℕ}
+use lib.ListN.{getD}
 use Rattle.model.specs.declared.Made.{Made}
-use Rattle.model.specs.declared.Outcome.{Outcome}
+use Rattle.model.specs.declared.Table.{Table}
 use Rattle.model.specs.declared.Answer.the-variants.{Done}
 use Rattle.model.specs.Event.{numberOf, event}
-use Rattle.model.specs.Laws.Fees.{event-cost}
+use Rattle.model.specs.Run.{codeOf, run, runAnswers}
+use Rattle.lock.specs.Single.{single, run-one}
 use Rattle.image.specs.Image.{opened, Puts}
 use Rattle.cabi.specs.Laws.{is-done, no-image, check-refused, event-unread, event-refused, event-done}
 use Rattle.cabi.proofs.yarvelow_event.Statement.{statement}
@@ -17,20 +19,21 @@ decides : (c : tie.After-number) → c .number .result ≡ numberOf (opened (c .
 decides c = c .number .ensures ∙ ap (λ (m : Made). numberOf (m .answer)) (c .before .open .ensures)
 
 -- the image is opened, and its table is the one that the event is carried out on
-module _ (c : tie.After-event) where
-  is-open : opened (c .before .before .before .before .before .before .before .args .image .now) .answer ≡ Done
-  is-open = is-done _ (sym (decides (c .before .before .before)) ∙ c .before .before .if1 .left)
+module _ (c : tie.After-run) where
+  is-open : opened (c .before .before .before .before .before .before .before .before .before .args .image .now) .answer ≡ Done
+  is-open = is-done _ (sym (decides (c .before .before .before .before .before)) ∙ c .before .before .before .before .if1 .left)
 
-  outcome : c .event .result ≡ event (opened (c .before .before .before .before .before .before .before .args .image .now) .table) (c .before .before .before .before .before .before .before .args .port) (c .before .before .before .before .before .before .before .args .event)
-  outcome =
-      c .event .ensures
-      ∙ ap
-      (λ (m : Made).
-      event (m .table) (c .before .before .before .before .before .before .before .args .port) (c .before .before .before .before .before .before .before .args .event))
-      (c .before .before .before .before .open .ensures)
+  table : c .run .result .table ≡ event (opened (c .before .before .before .before .before .before .before .before .before .args .image .now) .table) (c .before .before .before .before .before .before .before .before .before .args .port) (c .before .before .before .before .before .before .before .before .before .args .event) .table
+  table =
+      ap (λ (m : Made). m .table) (c .run .ensures .0)
+      ∙ ap (λ (m : Made). run (m .table) (single (c .before .before .before .before .before .before .before .before .before .args .port) (c .before .before .before .before .before .before .before .before .before .args .event)) .table) (c .before .before .before .before .before .before .open .ensures)
+      ∙ run-one _ _ _ .0
 
-  costs : (c .event .result .cached ≤ 1) × (c .event .result .distributed ≤ 1)
-  costs = rw outcome (event-cost _ _ _)
+  answered : getD (c .run .last .1 .1 .0) 0 0 ≡ codeOf (event (opened (c .before .before .before .before .before .before .before .before .before .args .image .now) .table) (c .before .before .before .before .before .before .before .before .before .args .port) (c .before .before .before .before .before .before .before .before .before .args .event))
+  answered =
+      ap (λ (a : List ℕ). getD a 0 0) (c .run .ensures .1)
+      ∙ ap (λ (m : Made). getD (runAnswers (m .table) (single (c .before .before .before .before .before .before .before .before .before .args .port) (c .before .before .before .before .before .before .before .before .before .args .event)) (1 ∷ [])) 0 0) (c .before .before .before .before .before .before .open .ensures)
+      ∙ run-one _ _ _ .1
 
 returns : tie.Need-returns
 returns c =
@@ -41,26 +44,15 @@ returns c =
 returns-2 : tie.Need-returns-2
 returns-2 c =
     let v = c .before .before in
-    let e = c .before .number2 .ensures ∙ ap (λ (o : Outcome). numberOf (o .answer)) (outcome v) in
-    rw e (event-refused _ (is-open v) _ _ (λ z. c .if2 .taken (e ∙ z)))
-
-mul-result : tie.Need-mul-result
-mul-result c = omega (arith, costs (c .before .before .before .before .before .before .before .before))
-
-mul-result-2 : tie.Need-mul-result-2
-mul-result-2 c = omega (arith, costs (c .before .before .before .before .before .before .before .before .before))
-
-add-result : tie.Need-add-result
-add-result c = omega (arith, costs (c .before .before .before .before .before .before .before .before .before))
+    event-refused _ (is-open v) _ _ _ (answered v) (c .if2 .taken)
 
 returns-3 : tie.Need-returns-3
 returns-3 c =
-    let v = c .before .before .before .before .before .before .before .before .before in
-    let o = outcome v in
-    let z = sym (ap (λ (r : Outcome). numberOf (r .answer)) o) ∙ sym (c .before .before .before .before .before .before .before .before .number2 .ensures) ∙ c .before .before .before .before .before .before .before .if2 .left in
-    rw o
-    (event-done _ (is-open v) _ _ z (c .before .before .before .before .put .result) (c .before .before .before .before .put .last .1 .0)
-    (subst (λ (r : Outcome). Puts (r .table) (v .before .before .before .before .before .before .before .args .image .now) (c .before .before .before .before .put .result) (c .before .before .before .before .put .last .1 .0)) o (c .before .before .before .before .put .ensures)))
+    let v = c .before .before .before .before .before .before .before in
+    let w = c .before .before .put .result in
+    let next = c .before .before .put .last .1 .0 in
+    event-done _ (is-open v) _ _ _ (answered v) (c .before .before .before .before .before .if2 .left) w next
+    (subst (λ (t : Table). Puts t (v .before .before .before .before .before .before .before .before .before .args .image .now) w next) (table v) (c .before .before .put .ensures))
 
 pub yarvelow-event-spec : {M : Type 1} → statement M
 yarvelow-event-spec =
@@ -70,13 +62,12 @@ yarvelow-event-spec =
     (λ c κs. search needs)
     (λ c. search needs)
     returns
+    (λ c. search needs)
+    (λ c. search needs)
     (λ c κs. search needs)
-    (λ c κs. search needs)
+    (λ c. search needs)
     (λ c. search needs)
     returns-2
     (λ c κs. search needs)
-    mul-result
-    mul-result-2
-    add-result
     (λ c. search needs)
     returns-3)

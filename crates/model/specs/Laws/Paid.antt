@@ -1,0 +1,59 @@
+-- On a good table the orders of a run whose check has been paid are the events.
+use mathlib.Core.Path.{_≡_, refl, sym, ap, _∙_}
+use mathlib.Core.Bool.{Bool, true, false, cond, _&&_}
+use mathlib.Core.List.{List, [], _∷_}
+use Prim.Native.Nat.{ℕ}
+use borrow.Author.Tests.{leb-false, le-leb, lt-ltb}
+use lib.Dec.{eqb, leb, ltb}
+use Rattle.model.specs.declared.Table.{Table}
+use Rattle.model.specs.declared.Outcome.{Outcome}
+use Rattle.model.specs.declared.Answer.the-variants.{BadTable, NoSuchPort}
+use Rattle.model.specs.Table.{Sized, portAt}
+use Rattle.model.specs.Good.{sizeGood, good}
+use Rattle.model.specs.Event.{numberOf, firstOf, refusals, refusal, stepping, carried, eventGood, event}
+use Rattle.model.specs.Run.{Order, after, ran, codeOf, codes}
+use Rattle.model.specs.Paid.{placed, paidAnswer, paidEvent, paidRan, paidCodes}
+use Rattle.model.specs.Laws.Tests.{split}
+use Rattle.model.specs.Laws.Rules.{shared-rules, port-rules}
+use Rattle.model.specs.Laws.After.{put-sized, step-sized, after-sized}
+use Rattle.model.specs.Laws.Kept.{good-after}
+
+-- such an order keeps the lengths
+pub paid-sized : (t : Table) (k e : ℕ) → Sized t → Sized (paidEvent t k e .table)
+unfolding paidEvent carried
+paid-sized t k e s =
+    split (λ (o : Outcome). Sized (o .table)) (eqb (numberOf (paidAnswer (t .shared) k e (portAt t k))) 0) _ _
+    (λ n. split (λ (o : Outcome). Sized (o .table)) (eqb e stepping) _ _ (λ q. step-sized t k s) (λ q. put-sized t k _ s))
+    (λ n. s)
+
+module _ (t : Table) (k e : ℕ) (g : good t ≡ true) where
+  -- what it answers, at a port that there is and at one that there isn't
+  at-port : (b : Bool) → leb (t .shared .d) k ≡ b
+      → cond b NoSuchPort (cond (placed (t .shared .d) (portAt t k)) (firstOf (refusals e (portAt t k))) BadTable) ≡ cond b NoSuchPort (firstOf (refusals e (portAt t k)))
+  unfolding placed
+  at-port true q = refl
+  at-port false q =
+      let p = port-rules t k g (leb-false _ _ q) in
+      rw (lt-ltb _ _ (p .seenowner), lt-ltb _ _ (p .candidate), le-leb _ _ (p .made))
+
+  paid-answer : paidAnswer (t .shared) k e (portAt t k) ≡ refusal t k e
+  unfolding paidAnswer refusal firstOf sizeGood
+  paid-answer =
+      let r = shared-rules t g in
+      rw (le-leb _ _ (r .some), le-leb _ _ (r .fits), r .active) (at-port (leb (t .shared .d) k) refl)
+
+  -- it is the event
+  pub paid-event : paidEvent t k e ≡ event t k e
+  unfolding paidEvent event eventGood
+  paid-event = rw (g, paid-answer)
+
+pub paid-ran : (t : Table) (os : List Order) → Sized t → good t ≡ true → paidRan t os ≡ ran t os
+unfolding paidRan ran
+paid-ran t [] s g = refl
+paid-ran t (o ∷ os) s g = rw (paid-event t (o .port) (o .event) g) (paid-ran (after t o) os (after-sized t o s) (good-after t o s g))
+
+pub paid-codes : (t : Table) (os : List Order) → Sized t → good t ≡ true → paidCodes t os ≡ codes t os
+unfolding paidCodes codes
+paid-codes t [] s g = refl
+paid-codes t (o ∷ os) s g =
+    rw (paid-event t (o .port) (o .event) g, paid-codes (after t o) os (after-sized t o s) (good-after t o s g))
