@@ -6,6 +6,7 @@ use Prim.Native.Nat.{ℕ, _+_, _*_, _/_, _%_, _<_}
 use native.Mathlib.Omega.{arith}
 use lib.Dec.{eqb}
 use lib.ListN.{getD}
+use lib.Seq.{sets}
 use Rattle.model.specs.declared.Table.{Table}
 use Rattle.model.specs.declared.Outcome.{Outcome}
 use Rattle.model.specs.declared.Made.{Made}
@@ -14,7 +15,9 @@ use Rattle.model.specs.declared.Answer.the-variants.{Done, BadTable, NoSuchPort
 use Rattle.model.specs.Event.{numberOf, free, event}
 use Rattle.model.specs.Good.{good}
 use Rattle.model.specs.Run.{Order, ran, orders, codeOf, codes, ordersFor, run, runAnswers}
+use Rattle.model.specs.Paid.{paidEvent, paidRan, paidCodes}
 use Rattle.model.specs.Laws.Fees.{event-cost}
+use Rattle.model.specs.Laws.Paid.{paid-cost}
 
 -- the answer that a number stands for
 unfoldable pub answerOf : ℕ → Answer
@@ -113,3 +116,14 @@ run-one t k e = one-code t k e (good t) refl
 pub code-number : (o : Outcome) → codeOf o % 256 ≡ numberOf (o .answer)
 unfolding codeOf
 code-number o = omega (arith, number-small (o .answer))
+
+-- the same where the check has been paid
+pub paid-of-one : (t : Table) (k e : ℕ) (r : Table) (a : List ℕ) (n : Answer)
+    → r ≡ paidRan t (ordersFor (k ∷ e ∷ []) (0 ∷ []))
+    → a ≡ sets (0 ∷ []) 0 (paidCodes t (ordersFor (k ∷ e ∷ []) (0 ∷ [])))
+    → n ≡ answerOf (getD a 0 0 % 256)
+    → record { table = r; cached = getD a 0 0 / 256 % 256; distributed = getD a 0 0 / 65536; answer = n } ≡ paidEvent t k e
+unfolding paidRan paidCodes orders
+paid-of-one t k e r a n p q h =
+    let d = decoded (paidEvent t k e) (omega (arith, paid-cost t k e .0)) in
+    rw (p, h, q, sym (d .0), sym (d .1), sym (d .2))

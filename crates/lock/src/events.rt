@@ -6,6 +6,7 @@ use model::Outcome;
 use model::Table;
 ghost use mathlib.Core.Path.{_≡_};
 ghost use Rattle.model.specs.Event as Event;
+ghost use Rattle.model.specs.Paid as Paid;
 ghost use Rattle.lock.specs.Single.{answerOf};
 
 const BAD_TABLE: u64 = 1;
@@ -46,6 +47,22 @@ pub fn event(table: Table, port: u64, event: u64) -> Outcome
     let r = runs::run(table, &orders, &mut answers);
     let code = answers[0];
     let after = r.table;
+    Outcome {
+        table: after,
+        cached: code / 256 % 256,
+        distributed: code / 65536,
+        answer: named(code % 256),
+    }
+}
+
+// An event on a table whose check has been paid.
+pub fn paid(table: Table, port: u64, event: u64) -> Outcome
+    ensures { λ r. ⌜ r ≡ Paid.paidEvent table port event ⌝ }
+{
+    let orders = [port, event];
+    let mut answers: [u64; 1] = [0];
+    let after = runs::carry(table, &orders, &mut answers);
+    let code = answers[0];
     Outcome {
         table: after,
         cached: code / 256 % 256,

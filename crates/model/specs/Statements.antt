@@ -13,10 +13,12 @@ use Rattle.model.specs.Ring.{next, distance}
 use Rattle.model.specs.Good.{good}
 use Rattle.model.specs.Event.{numberOf, enter, stepping, crash, free, event, fresh}
 use Rattle.model.specs.Run.{Order, order, after, ran, run, runAnswers, done, stepsAt, passedOver, cachedSum, distributedSum, stepless}
+use Rattle.model.specs.Paid.{paidEvent}
 use Rattle.model.specs.Laws.Ring.{next-stands, next-nearest}
 use Rattle.model.specs.Laws.Cases.{refused-free, orders-free}
 use Rattle.model.specs.Laws.After.{fresh-sized}
 use Rattle.model.specs.Laws.Kept.{good-fresh, good-after, good-ran, room-fits}
+use Rattle.model.specs.Laws.Paid.{paid-event}
 use Rattle.model.specs.Laws.Reached.{reached-sized, reached-safe, reached-d}
 use Rattle.model.specs.Laws.Only.{only-word, only-bit, only-go, only-status}
 use Rattle.model.specs.Laws.Exclusion.{one-critical, keeps-critical, returns-inside}
@@ -36,6 +38,13 @@ run-one t os r s p q = p ∙ sym q
 
 pub answers-one : (t : Table) (os : List Order) (places r s : List ℕ) → r ≡ runAnswers t os places → s ≡ runAnswers t os places → r ≡ s
 answers-one t os places r s p q = p ∙ sym q
+
+pub paid-one : (t : Table) (k e : ℕ) (r s : Outcome) → r ≡ paidEvent t k e → s ≡ paidEvent t k e → r ≡ s
+paid-one t k e r s p q = p ∙ sym q
+
+-- On a good table an order whose check has been paid is the event
+pub paid-is-event : (t : Table) (k e : ℕ) → good t ≡ true → paidEvent t k e ≡ event t k e
+paid-is-event = paid-event
 
 -- 'An event carried out on a good table gives a good table'; a fresh table is good. (A refused event gives the table that it got.)
 pub fresh-good : (d : ℕ) → 1 ≤ d → d ≤ room → good (freshTable d) ≡ true

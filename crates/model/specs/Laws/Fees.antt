@@ -66,25 +66,27 @@ charge-cost u k w q s c =
     (λ e. (omega arith, cell-cost (u .cell) k w))
     (λ e. (kind-cost (u .kind) k _, cell-cost (u .cell) k w))
 
--- nor does a step, nor any event
+-- nor does a step, an event that is carried out, nor any event
 step-cost : (t : Table) (k : ℕ) → (stepped t k .cached ≤ 1) × (stepped t k .distributed ≤ 1)
 unfolding stepped chargeOf
 step-cost t k = charge-cost _ _ _ _ _ _
 
+abbrev pub Small : Outcome → Type 0
+Small o = (o .cached ≤ 1) × (o .distributed ≤ 1)
+
+pub nothing : (0 ≤ 1) × (0 ≤ 1)
+nothing = (omega arith, omega arith)
+
+pub carried-cost : (t : Table) (k e : ℕ) → Small (carried t k e)
+unfolding carried
+carried-cost t k e = split Small (eqb e stepping) _ _ (λ s. step-cost t k) (λ s. nothing)
+
 pub event-cost : (t : Table) (k e : ℕ) → (event t k e .cached ≤ 1) × (event t k e .distributed ≤ 1)
-unfolding event eventGood carried
+unfolding event eventGood
 event-cost t k e =
     split Small (good t) _ _
-    (λ g. split Small (eqb (numberOf (refusal t k e)) 0) _ _
-    (λ n. split Small (eqb e stepping) _ _ (λ s. step-cost t k) (λ s. nothing))
-    (λ n. nothing))
+    (λ g. split Small (eqb (numberOf (refusal t k e)) 0) _ _ (λ n. carried-cost t k e) (λ n. nothing))
     (λ g. nothing)
-  where
-    Small : Outcome → Type 0
-    Small o = (o .cached ≤ 1) × (o .distributed ≤ 1)
-
-    nothing : (0 ≤ 1) × (0 ≤ 1)
-    nothing = (omega arith, omega arith)
 
 -- the charge of a step of port k at point q
 module _ (t : Table) (k : ℕ) where

@@ -2,7 +2,7 @@
 use mathlib.Core.Path.{_≡_, refl, sym, ap, _∙_}
 use mathlib.Core.Bool.{Bool, true, false, cond, _&&_}
 use mathlib.Core.List.{List, [], _∷_}
-use Prim.Native.Nat.{ℕ}
+use Prim.Native.Nat.{ℕ, _≤_}
 use borrow.Author.Tests.{leb-false, le-leb, lt-ltb}
 use lib.Dec.{eqb, leb, ltb}
 use Rattle.model.specs.declared.Table.{Table}
@@ -16,6 +16,7 @@ use Rattle.model.specs.Paid.{placed, paidAnswer, paidEvent, paidRan, pai
 use Rattle.model.specs.Laws.Tests.{split}
 use Rattle.model.specs.Laws.Rules.{shared-rules, port-rules}
 use Rattle.model.specs.Laws.After.{put-sized, step-sized, after-sized}
+use Rattle.model.specs.Laws.Fees.{Small, nothing, carried-cost}
 use Rattle.model.specs.Laws.Kept.{good-after}
 
 -- such an order keeps the lengths
@@ -25,6 +26,11 @@ paid-sized t k e s =
     split (λ (o : Outcome). Sized (o .table)) (eqb (numberOf (paidAnswer (t .shared) k e (portAt t k))) 0) _ _
     (λ n. split (λ (o : Outcome). Sized (o .table)) (eqb e stepping) _ _ (λ q. step-sized t k s) (λ q. put-sized t k _ s))
     (λ n. s)
+
+-- its costs are at most 1
+pub paid-cost : (t : Table) (k e : ℕ) → (paidEvent t k e .cached ≤ 1) × (paidEvent t k e .distributed ≤ 1)
+unfolding paidEvent
+paid-cost t k e = split Small (eqb (numberOf (paidAnswer (t .shared) k e (portAt t k))) 0) _ _ (λ n. carried-cost t k e) (λ n. nothing)
 
 module _ (t : Table) (k e : ℕ) (g : good t ≡ true) where
   -- what it answers, at a port that there is and at one that there isn't
