@@ -3,7 +3,9 @@ pub mod Digits
 pub mod Records
 pub mod Rows
 pub mod Reading
+pub mod Sound
 pub mod Writing
 pub mod Fits
 pub mod RoundTrip
+pub mod Again
 pub mod Promises

@@ -1,5 +1,5 @@
 -- What is proved of images. `open` promises `opened`, `read` `decode`, `put` `Puts` and `write` `Writes`: so their contracts say.
-use mathlib.Core.Path.{_≡_, refl, sym, ap, _∙_}
+use mathlib.Core.Path.{_≡_, sym, ap, _∙_}
 use mathlib.Core.Bool.{true}
 use mathlib.Core.List.{List}
 use Prim.Native.Nat.{ℕ, _+_, _*_, _≤_, _<_}

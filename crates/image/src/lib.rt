@@ -3,6 +3,7 @@ mod codec;
 mod layout;
 mod parts;
 pub mod reader;
+mod sound;
 pub mod writer;
 
 use model::Answer;

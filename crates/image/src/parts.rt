@@ -1,7 +1,6 @@
 // The records of a table in the bytes of an image: each put at a place, and got from one.
 use crate::codec;
 use crate::layout;
-use model::Answer;
 use model::Copies;
 use model::Port;
 use model::Shared;
@@ -9,16 +8,14 @@ use model::Word;
 use model::Work;
 use rules::good;
 ghost use mathlib.Core.Path.{_≡_};
-ghost use mathlib.Core.Bool.{cond};
 ghost use mathlib.Core.List.{_++_};
-ghost use Prim.Native.Nat.{_+_, _≤_};
-ghost use lib.Dec.{eqb};
+ghost use Prim.Native.Nat.{_+_, _≤_, _<_};
 ghost use lib.ListN.{length, drop};
 ghost use lib.Seq.{sets};
 ghost use Rattle.model.specs.Table.{room, noPort, noCopies};
 ghost use Rattle.image.specs.Bytes.{sum, pack, unpack};
 ghost use Rattle.image.specs.Layout as Layout;
-ghost use Rattle.image.specs.Laws.Reading.{portsIn, sharedIn, answerIn};
+ghost use Rattle.image.specs.Laws.Reading.{portsIn, sharedIn};
 
 // A port that is all 0, and no copies of a port's words.
 pub fn no_port() -> Port
@@ -111,7 +108,7 @@ fn shared_at(bytes: &[u8], d: u64, at: usize, copied: usize) -> Shared
 
 // What all ports share in the image of d ports; at d = 0, that of the fresh table of D = 1.
 pub fn shared_in(bytes: &[u8], d: u64) -> Shared
-    requires { ⌜ d ≡ portsIn (now bytes) ⌝ }
+    requires { ⌜ (0 < d → d ≡ portsIn (now bytes)) ⌝ }
     ensures { λ r. ⌜ r ≡ sharedIn d (now (bytes .entry)) ⌝ }
 {
     if d == 0 {
@@ -129,17 +126,6 @@ pub fn shared_in(bytes: &[u8], d: u64) -> Shared
         };
     }
     shared_at(bytes, d, layout::HEAD_SIZE, layout::port_place(d as usize))
-}
-
-// What reading the image of d ports answers; at d = 0, BAD IMAGE.
-pub fn answer_in(d: u64) -> Answer
-    ensures { λ r. ⌜ r ≡ answerIn d ⌝ }
-{
-    if d == 0 {
-        Answer::BadImage
-    } else {
-        Answer::Done
-    }
 }
 
 // Puts head and shared record at the room's start, and gives the place after them.

@@ -24,7 +24,7 @@ pub fn size_good(d: u64) -> bool
 }
 
 // What all share, with made of the word's owner.
-fn shared_good(s: Shared, ownermade: u16) -> bool
+pub fn shared_good(s: Shared, ownermade: u16) -> bool
     ensures { λ r. ⌜ r ≡ Good.sharedGood s ownermade ⌝ }
 {
     let d = s.d;
@@ -108,7 +108,7 @@ fn port_empty(p: Port, c: Copies) -> bool
 }
 
 // The rules for place i of the table, with made of the port's seen owner and of its candidate.
-fn place_good(s: Shared, i: u64, p: Port, c: Copies, seenmade: u16, candidatemade: u16) -> bool
+pub fn place_good(s: Shared, i: u64, p: Port, c: Copies, seenmade: u16, candidatemade: u16) -> bool
     ensures { λ r. ⌜ r ≡ placeGoodOn s i p c seenmade candidatemade ⌝ }
 {
     let d = s.d;

@@ -1,18 +1,17 @@
 -- The fields of a good table fit their widths, and what a good table keeps for ports at or above D is 0.
-use mathlib.Core.Path.{_≡_, refl, sym, ap, _∙_}
-use mathlib.Core.Bool.{Bool, true, false, cond, _&&_, and-eq-true-iff, and-false, true≢false}
+use mathlib.Core.Path.{_≡_, refl, sym, _∙_}
+use mathlib.Core.Bool.{Bool, true, false, _&&_, and-eq-true-iff, and-false, true≢false}
 use mathlib.Core.List.{List, [], _∷_, map}
-use Prim.Native.Nat.{ℕ, zero, suc, _+_, _^_, _≤_, _<_}
-use native.Mathlib.Nat.{lt-of-lt-of-le, le-trans, pow-le-pow-right}
+use Prim.Native.Nat.{ℕ, suc, _≤_, _<_}
+use native.Mathlib.Nat.{lt-of-lt-of-le, pow-le-pow-right}
 use native.Mathlib.Omega.{arith}
 use borrow.Author.Tests.{leb-true, leb-false, lt-leb, le-ltb, eqb-true}
 use lib.Dec.{leb}
-use lib.ListN.{length, getD, take}
-use lib.Seq.{getD-take, length-take-le}
+use lib.ListN.{length, getD}
 use Rattle.model.specs.declared.Port.{Port}
 use Rattle.model.specs.declared.Copies.{Copies}
 use Rattle.model.specs.declared.Table.{Table}
-use Rattle.model.specs.Table.{room, most, Sized, noPort, noCopies, portAt, copiesAt}
+use Rattle.model.specs.Table.{room, most, noPort, noCopies, portAt, copiesAt}
 use Rattle.model.specs.Mask.{within}
 use Rattle.model.specs.Good.{everyBelow, named, sizeGood, sharedGood, portEmpty, placeGood, good}
 use Rattle.model.specs.Laws.Tests.{conjunct, every-below}

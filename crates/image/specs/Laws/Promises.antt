@@ -1,28 +1,25 @@
 -- What the promises of the functions say where the answer is DONE.
 use mathlib.Core.Path.{_≡_, refl, sym, ap, _∙_}
-use mathlib.Core.Bool.{Bool, true, false, cond}
-use mathlib.Core.List.{List, [], _++_, map}
+use mathlib.Core.Bool.{Bool, true, false}
+use mathlib.Core.List.{List, _++_, map}
 use Prim.Native.Nat.{ℕ, suc, _+_, _-_, _*_, _≤_}
 use native.Mathlib.Omega.{arith}
 use lib.ListN.{length, take, drop, replicate, length-append, length-map, length-replicate}
 use lib.Seq.{sets, sets-eq, take-at, drop-at}
 use Rattle.model.specs.declared.Table.{Table}
-use Rattle.model.specs.declared.Made.{Made}
-use Rattle.model.specs.declared.Answer.{Answer}
-use Rattle.model.specs.declared.Answer.the-variants.{Done, BadTable, ShortRoom, BadImage}
+use Rattle.model.specs.declared.Answer.the-variants.{Done}
 use Rattle.model.specs.Table.{room, Sized, noPort, noCopies}
 use Rattle.model.specs.Good.{good}
 use Rattle.model.specs.Event.{numberOf}
-use Rattle.model.specs.Laws.Rules.{shared-rules}
 use Rattle.image.specs.declared.Written.{Written}
 use Rattle.image.specs.Bytes.{Bytes, sum, pack, packs, unpacks}
 use Rattle.image.specs.Layout.{sharedWidths, portWidths, copiedWidths, copiesWidths, headWidths, sharedValues, portValues, copiedValues, copiesValues, headValues, sharedOf, portOf, copiesOf, portPlace, copiesPlace, bodies, size}
-use Rattle.image.specs.Image.{encode, dIn, isImage, held, opened, decode, putAnswer, writeAnswer, written, roomAfter, Puts, Writes}
+use Rattle.image.specs.Image.{encode, dIn, isImage, held, opened, decode, writeAnswer, written, roomAfter, Puts, Writes}
 use Rattle.image.specs.Laws.Digits.{bytes-append}
 use Rattle.image.specs.Laws.Records.{pack-bytes, packs-bytes, length-unpacks}
 use Rattle.image.specs.Laws.Reading.{image-tests}
 use Rattle.image.specs.Laws.Writing.{length-encode, answer-done}
-use Rattle.image.specs.Laws.RoundTrip.{encode-held}
+use Rattle.image.specs.Laws.Again.{encode-held}
 
 pub size-is : (d : ℕ) → size d ≡ 30 + 22 * d
 unfolding sum headWidths sharedWidths portWidths copiedWidths copiesWidths bodies size

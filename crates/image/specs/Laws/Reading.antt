@@ -1,12 +1,12 @@
 -- Reading as the code does it: D first, 0 where the bytes are no image; then port by port.
 use mathlib.Core.Path.{_≡_, refl, sym, ap, _∙_}
-use mathlib.Core.Bool.{Bool, true, false, cond, _&&_, and-eq-true-iff, and-false, and-true}
-use mathlib.Core.List.{List, [], _∷_, _++_, map, append-assoc, append-nil, map-append}
+use mathlib.Core.Bool.{Bool, true, false, cond, _&&_, and-eq-true-iff, and-false}
+use mathlib.Core.List.{List, [], _∷_, _++_, map, append-nil, map-append}
 use Prim.Native.Nat.{ℕ, zero, suc, _+_, _-_, _*_, _≤_, _<_}
 use native.Mathlib.Nat.{zero-mul, add-zero, sub-zero}
 use native.Mathlib.Numerals.{add-one}
 use native.Mathlib.Omega.{arith}
-use borrow.Author.Tests.{eqb-true, eq-eqb, ne-eqb, leb-true, lt-leb}
+use borrow.Author.Tests.{eqb-true, eq-eqb, ne-eqb, leb-true}
 use lib.Dec.{eqb, leb}
 use lib.ListN.{length, getD, set, drop, replicate, length-map, drop-of-length-le}
 use lib.Seq.{sets, sets-eq, set-at, append-snoc, drop-drop}
@@ -16,13 +16,11 @@ use Rattle.model.specs.declared.Shared.{Shared}
 use Rattle.model.specs.declared.Table.{Table}
 use Rattle.model.specs.declared.Made.{Made}
 use Rattle.model.specs.declared.Answer.{Answer}
-use Rattle.model.specs.declared.Answer.the-variants.{Done, BadTable, BadImage}
 use Rattle.model.specs.Table.{room, noPort, noCopies, freshTable}
-use Rattle.model.specs.Good.{sizeGood, good}
-use Rattle.model.specs.Event.{numberOf}
+use Rattle.model.specs.Good.{sizeGood}
 use Rattle.image.specs.Bytes.{Bytes, sum, unpack, unpacks}
 use Rattle.image.specs.Layout.{sharedWidths, portWidths, copiedWidths, copiesWidths, headWidths, headValues, sharedOf, portOf, copiesOf, sharedPlace, portPlace, copiesPlace, bodies, size}
-use Rattle.image.specs.Image.{same, dIn, isImage, held, refused, opened, decode}
+use Rattle.image.specs.Image.{same, dIn, isImage, held, refused}
 use Rattle.image.specs.Laws.Digits.{bytes-drop}
 use Rattle.image.specs.Laws.Records.{length-unpack, unpack-fits, length-unpacks, unpacks-more}
 use Rattle.image.specs.Laws.Rows.{cut, cut-fits}
@@ -31,15 +29,12 @@ use Rattle.image.specs.Laws.Rows.{cut, cut-fits}
 unfoldable pub portsIn : List ℕ → ℕ
 portsIn bs = cond (isImage bs) (dIn bs) 0
 
--- what all ports share, and the answer, from that D
+-- what all ports share, from that D
 unfoldable pub sharedIn : ℕ → List ℕ → Shared
 sharedIn d bs =
     cond (eqb d 0)
     (freshTable 1 .shared)
     (sharedOf d (unpack sharedWidths (drop sharedPlace bs)) (unpack copiedWidths (drop (portPlace d) bs)))
-
-unfoldable pub answerIn : ℕ → Answer
-answerIn d = cond (eqb d 0) BadImage Done
 
 -- the tests of an image, one by one
 pub record Image (bs : List ℕ) : Type 0 where
@@ -69,6 +64,10 @@ ports-fit bs = go (isImage bs) refl
     go : (b : Bool) → isImage bs ≡ b → (cond b (dIn bs) 0 ≤ room) × (0 < cond b (dIn bs) 0 → length bs ≡ size (cond b (dIn bs) 0))
     go true e = (image-tests bs e .fits, λ h. image-tests bs e .long)
     go false e = (omega arith, λ h. absurd (omega (arith, h)))
+
+pub positive : (n : ℕ) → (n ≡ 0 → ⊥) → 0 < n
+positive zero h = absurd (h refl)
+positive (suc n) h = omega arith
 
 -- a record put into a list of its length is the list
 pub sets-whole : (l xs : List ℕ) → length l ≡ length xs → sets l 0 xs ≡ xs
@@ -149,44 +148,52 @@ ports-there bs n i e h =
     let l = ports-fit bs .1 (omega (arith, e)) in
     (omega (arith, l, e), omega (arith, l, e))
 
--- the reader's loop
-pub record Reading (bs : List ℕ) (n i : ℕ) (ps : List Port) (cs : List Copies) : Type 0 where
+-- the reader's loop over the n ports of an image
+pub record Reading (bs : List ℕ) (n i : ℕ) (t : Table) : Type 0 where
   pub upto : i ≤ n
-  pub ports : ps ≡ filled portOf noPort portWidths (drop (portPlace 0) bs) i
-  pub copies : cs ≡ filled copiesOf noCopies copiesWidths (drop (copiesPlace n 0) bs) i
+  pub ports : t .ports ≡ filled portOf noPort portWidths (drop (portPlace 0) bs) i
+  pub copies : t .copies ≡ filled copiesOf noCopies copiesWidths (drop (copiesPlace n 0) bs) i
+  pub shared : t .shared ≡ sharedIn n bs
 
-pub read-start : (bs : List ℕ) (n : ℕ) → Reading bs n 0 (replicate room noPort) (replicate room noCopies)
+pub read-start : (bs : List ℕ) (n : ℕ) (s : Shared) → s ≡ sharedIn n bs
+    → Reading bs n 0 (record { ports = replicate room noPort; copies = replicate room noCopies; shared = s })
 unfolding unpacks
-read-start bs n = record { upto = omega arith; ports = rw (sub-zero room); copies = rw (sub-zero room) }
+read-start bs n s e = record { upto = omega arith; ports = rw (sub-zero room); copies = rw (sub-zero room); shared = e }
 
-port-there : (k : ℕ) (bs : List ℕ) → drop (portPlace k) bs ≡ drop (k * sum portWidths) (drop (portPlace 0) bs)
+pub port-there : (k : ℕ) (bs : List ℕ) → drop (portPlace k) bs ≡ drop (k * sum portWidths) (drop (portPlace 0) bs)
 unfolding portPlace
 port-there k bs =
     let e : sharedPlace + sum sharedWidths + 0 * sum portWidths + k * sum portWidths ≡ sharedPlace + sum sharedWidths + k * sum portWidths =
     rw (zero-mul (sum portWidths), add-zero (sharedPlace + sum sharedWidths)) in
     sym (drop-drop (k * sum portWidths) (sharedPlace + sum sharedWidths + 0 * sum portWidths) bs ∙ ap (λ (m : ℕ). drop m bs) e)
 
-copies-there : (n k : ℕ) (bs : List ℕ) → drop (copiesPlace n k) bs ≡ drop (k * sum copiesWidths) (drop (copiesPlace n 0) bs)
+pub copies-there : (n k : ℕ) (bs : List ℕ) → drop (copiesPlace n k) bs ≡ drop (k * sum copiesWidths) (drop (copiesPlace n 0) bs)
 unfolding copiesPlace
 copies-there n k bs =
     let e : portPlace n + sum copiedWidths + 0 * sum copiesWidths + k * sum copiesWidths ≡ portPlace n + sum copiedWidths + k * sum copiesWidths =
     rw (zero-mul (sum copiesWidths), add-zero (portPlace n + sum copiedWidths)) in
     sym (drop-drop (k * sum copiesWidths) (portPlace n + sum copiedWidths + 0 * sum copiesWidths) bs ∙ ap (λ (m : ℕ). drop m bs) e)
 
-pub read-turn : (bs : List ℕ) (n i : ℕ) (ps : List Port) (cs : List Copies) (p : Port) (c : Copies) → n ≤ room → i < n → Reading bs n i ps cs
+pub read-turn : (bs : List ℕ) (n i : ℕ) (t : Table) (p : Port) (c : Copies) → n ≤ room → i < n → Reading bs n i t
     → p ≡ portOf (unpack portWidths (drop (portPlace i) bs))
     → c ≡ copiesOf (unpack copiesWidths (drop (copiesPlace n i) bs))
-    → Reading bs n (i + 1) (set ps i p) (set cs i c)
-read-turn bs n i ps cs p c m h r e g =
+    → Reading bs n (i + 1) (record { ports = set (t .ports) i p; copies = set (t .copies) i c; shared = t .shared })
+read-turn bs n i t p c m h r e g =
     record {
       upto = omega arith;
       ports = rw (r .ports, e, port-there i bs) (fill-turn portOf noPort portWidths (drop (portPlace 0) bs) i (omega arith));
       copies = rw (r .copies, g, copies-there n i bs) (fill-turn copiesOf noCopies copiesWidths (drop (copiesPlace n 0) bs) i (omega arith));
+      shared = r .shared;
     }
 
--- what is read is what the definition says
-abbrev madeIn : ℕ → List ℕ → Made
-madeIn d bs =
+-- tables are equal where their parts are
+pub tables : (ps qs : List Port) (cs es : List Copies) (a b : Shared) → ps ≡ qs → cs ≡ es → a ≡ b
+    → _≡_ {A = Table} (record { ports = ps; copies = cs; shared = a }) (record { ports = qs; copies = es; shared = b })
+tables ps qs cs es a b p q r = rw (p, q, r)
+
+-- the table of the image of d ports; at d = 0, the fresh table of D = 1
+abbrev pub madeIn : Answer → ℕ → List ℕ → Made
+madeIn a d bs =
     record {
       table =
           record {
@@ -194,60 +201,19 @@ madeIn d bs =
             copies = filled copiesOf noCopies copiesWidths (drop (copiesPlace d 0) bs) d;
             shared = sharedIn d bs;
           };
-      answer = answerIn d;
+      answer = a;
     }
 
-is-image : (d : ℕ) (bs : List ℕ) → 1 ≤ d → madeIn d bs ≡ record { table = held d bs; answer = Done }
-unfolding held sharedIn answerIn
-is-image d bs h = rw (ne-eqb d 0 (λ e. absurd (omega (arith, e))))
+pub is-image : (a : Answer) (d : ℕ) (bs : List ℕ) → 1 ≤ d → madeIn a d bs ≡ record { table = held d bs; answer = a }
+unfolding held sharedIn
+is-image a d bs h = rw (ne-eqb d 0 (λ e. absurd (omega (arith, e))))
 
-no-image : (bs : List ℕ) → madeIn 0 bs ≡ refused BadImage
-unfolding freshTable sharedIn answerIn unpacks
-no-image bs = rw (sub-zero room)
+pub no-image : (a : Answer) (bs : List ℕ) → madeIn a 0 bs ≡ refused a
+unfolding freshTable sharedIn unpacks
+no-image a bs = rw (sub-zero room)
 
-made-opened : (bs : List ℕ) → madeIn (portsIn bs) bs ≡ opened bs
-unfolding portsIn opened held
-made-opened bs = go (isImage bs) refl
-  where
-    go : (b : Bool) → isImage bs ≡ b → madeIn (cond b (dIn bs) 0) bs ≡ cond b (record { table = held (dIn bs) bs; answer = Done }) (refused BadImage)
-    go true e = is-image (dIn bs) bs (image-tests bs e .some)
-    go false e = no-image bs
-
-pub read-end : (bs : List ℕ) (d i : ℕ) (ps : List Port) (cs : List Copies) (s : Shared) (a : Answer) → d ≡ portsIn bs → d ≤ i → Reading bs d i ps cs
-    → s ≡ sharedIn d bs → a ≡ answerIn d
-    → record { table = record { ports = ps; copies = cs; shared = s }; answer = a } ≡ opened bs
-read-end bs d i ps cs s a e h r p q =
+pub read-end : (bs : List ℕ) (d i : ℕ) (t : Table) (a : Answer) → d ≤ i → Reading bs d i t → record { table = t; answer = a } ≡ madeIn a d bs
+read-end bs d i t a h r =
     let k : i ≡ d = omega (arith, r .upto) in
-    rw (r .ports, r .copies, p, q, k, e) (made-opened bs)
-
--- the check after reading
-module _ (bs : List ℕ) (m : Made) (e : m ≡ opened bs) where
-  pub read-refused : (numberOf (m .answer) ≡ 0 → ⊥) → m ≡ decode bs
-  unfolding opened decode
-  read-refused h = go (isImage bs) refl
-    where
-      go : (b : Bool) → isImage bs ≡ b → m ≡ decode bs
-      go true q = absurd (h (rw (e, q)))
-      go false q = e ∙ rw q
-
-  image-open : (b : Bool) → isImage bs ≡ b → numberOf (m .answer) ≡ 0 → (isImage bs ≡ true) × (m ≡ record { table = held (dIn bs) bs; answer = Done })
-  unfolding opened
-  image-open true q h = (q, e ∙ rw q)
-  image-open false q h = absurd (number-eleven (rw (e, q) at h))
-    where
-      number-eleven : _≡_ {A = ℕ} 11 0 → ⊥
-      number-eleven z = omega (arith, z)
-
-  pub read-good : numberOf (m .answer) ≡ 0 → good (m .table) ≡ true → m ≡ decode bs
-  unfolding decode
-  read-good h g =
-      let i = image-open (isImage bs) refl h in
-      let k : good (held (dIn bs) bs) ≡ true = rw (i .1) at g in
-      i .1 ∙ rw (i .0, k)
-
-  pub read-bad : numberOf (m .answer) ≡ 0 → good (m .table) ≡ false → refused BadTable ≡ decode bs
-  unfolding decode
-  read-bad h g =
-      let i = image-open (isImage bs) refl h in
-      let k : good (held (dIn bs) bs) ≡ false = rw (i .1) at g in
-      rw (i .0, k)
+    ap (λ (u : Table). record { table = u; answer = a })
+    (tables (t .ports) _ (t .copies) _ (t .shared) _ (rw k at (r .ports)) (rw k at (r .copies)) (r .shared))

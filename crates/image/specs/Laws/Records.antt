@@ -1,10 +1,10 @@
 -- Laws of records of any widths: what is packed is unpacked, and what is unpacked is packed again.
 use mathlib.Core.Path.{_≡_, refl, sym, ap, _∙_}
 use mathlib.Core.List.{List, [], _∷_, _++_, append-assoc}
-use Prim.Native.Nat.{ℕ, zero, suc, _+_, _-_, _*_, _^_, _≤_, _<_}
+use Prim.Native.Nat.{ℕ, zero, suc, _+_, _*_, _^_, _≤_, _<_}
 use native.Mathlib.Nat.{zero-mul, suc-mul, add-comm}
 use native.Mathlib.Omega.{arith}
-use lib.ListN.{length, getD, take, drop, length-append, length-drop, take-append-drop}
+use lib.ListN.{length, getD, take, drop, length-append, length-drop}
 use lib.Seq.{take-at, drop-at, take-add, length-take-le, drop-drop}
 use Rattle.image.specs.Bytes.{Bytes, little, value, sum, pack, unpack, packs, unpacks}
 use Rattle.image.specs.Laws.Digits.{bytes-nil, bytes-append, bytes-drop, bytes-take, length-little, little-bytes, value-little, little-value, value-fits}

@@ -3,17 +3,17 @@ use mathlib.Core.Path.{_≡_, refl, sym, ap, _∙_}
 use mathlib.Core.Bool.{Bool, true, _&&_, and-true, and-assoc, and-eq-true-iff}
 use mathlib.Core.List.{List, [], _∷_, _++_}
 use Prim.Native.Nat.{ℕ, zero, suc, _+_, _-_, _*_, _/_, _%_, _^_, _≤_, _<_}
-use native.Mathlib.Nat.{mod-eq-of-lt, lt-of-lt-of-le, pow-le-pow-right, add-suc, add-zero}
+use native.Mathlib.Nat.{mod-eq-of-lt, lt-of-lt-of-le, pow-le-pow-right, add-zero}
 use native.Mathlib.Numerals.{add-one}
 use native.Mathlib.Omega.{arith}
 use borrow.Author.Tests.{leb-true}
 use lib.Dec.{leb, eqb}
-use lib.ListN.{length, getD, set, take, drop, length-take, length-drop, length-set}
+use lib.ListN.{length, getD, set, take, drop, length-drop, length-set}
 use lib.Seq.{sets, length-sets, drop-cons, getD-take, getD-drop, drop-drop, drop-length, length-take-le}
 use Rattle.image.specs.Bytes.{Bytes, little, value, sum, pack, unpack}
 use Rattle.image.specs.Image.{same}
 use Rattle.image.specs.Laws.Digits.{bytes-drop, bytes-take, length-little, value-below, value-from}
-use Rattle.image.specs.Laws.Records.{Fits, unpack-fits}
+use Rattle.image.specs.Laws.Records.{Fits}
 
 -- no field is wider than the code's numbers
 abbrev pub narrow : List ℕ → Bool

@@ -1,6 +1,6 @@
 -- Writing as the code does it: record by record, what is still to write gives the whole image.
 use mathlib.Core.Path.{_≡_, refl, sym, ap, _∙_}
-use mathlib.Core.List.{List, [], _∷_, _++_, map, append-assoc, append-nil}
+use mathlib.Core.List.{List, [], _++_, map, append-assoc}
 use Prim.Native.Nat.{ℕ, suc, _+_, _*_, _≤_, _<_}
 use native.Mathlib.Numerals.{add-one}
 use native.Mathlib.Omega.{arith}
@@ -8,7 +8,6 @@ use borrow.Author.Tests.{lt-ltb, le-ltb}
 use lib.ListN.{length, getD, take, drop, length-map, length-append, drop-of-length-le}
 use lib.Seq.{sets, length-sets, drop-cons, getD-take, length-take-le}
 use Rattle.model.specs.declared.Table.{Table}
-use Rattle.model.specs.declared.Answer.{Answer}
 use Rattle.model.specs.declared.Answer.the-variants.{Done, BadTable, ShortRoom}
 use Rattle.model.specs.Table.{room, Sized, noPort, noCopies}
 use Rattle.image.specs.Bytes.{sum, pack, packs}

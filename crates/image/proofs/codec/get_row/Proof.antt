@@ -1,5 +1,5 @@
 -- `image::codec::get_row` meets its contract: before turn j, the fields still to get give the whole record.
-use mathlib.Core.Path.{_≡_, refl}
+use mathlib.Core.Path.{refl}
 use Prim.Native.Nat.{_+_, _-_, _≤_}
 use native.Mathlib.Omega.{arith}
 use borrow.Author.Needs.{needs}

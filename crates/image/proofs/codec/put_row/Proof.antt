@@ -1,5 +1,5 @@
 -- `image::codec::put_row` meets its contract: before turn j, the fields still to put give the whole record.
-use mathlib.Core.Path.{_≡_, refl}
+use mathlib.Core.Path.{refl}
 use Prim.Native.Nat.{_+_, _-_, _≤_}
 use native.Mathlib.Omega.{arith}
 use borrow.Author.Needs.{needs}

@@ -4,7 +4,7 @@ use borrow.Author.Tests.{eq-eqb, ne-eqb}
 use Rattle.model.specs.Table.{freshTable}
 use Rattle.image.specs.Bytes.{sum}
 use Rattle.image.specs.Layout.{headWidths, sharedWidths, portWidths, copiedWidths, copiesWidths, bodies, size, sharedPlace, portPlace}
-use Rattle.image.specs.Laws.Reading.{sharedIn, ports-fit}
+use Rattle.image.specs.Laws.Reading.{sharedIn, ports-fit, positive}
 use Rattle.image.proofs.parts.shared_in.Statement.{statement}
 use Rattle.image.proofs.parts.shared_in.Tie as tie
 
@@ -13,15 +13,16 @@ unfolding sharedIn freshTable
 returns c = rw (eq-eqb _ _ (c .if1 .taken))
 
 port-place-requires : tie.Need-port-place-requires
-port-place-requires c κs = rw (c .before .before .pre) (ports-fit _ .0)
+port-place-requires c κs = rw (c .before .before .pre (positive _ (c .if1 .left))) (ports-fit _ .0)
 
 shared-at-requires : tie.Need-shared-at-requires
 unfolding sum headWidths sharedWidths portWidths copiedWidths copiesWidths bodies size sharedPlace portPlace
 shared-at-requires c κs =
     let s = c .before .before .before in
     let h = ports-fit (s .args .bytes .now) in
-    let l = h .1 (omega (arith, s .pre, c .before .if1 .left)) in
-    (omega (arith, l), omega (arith, l, s .pre, c .port-place .ensures))
+    let e = s .pre (positive _ (c .before .if1 .left)) in
+    let l = h .1 (omega (arith, e, positive _ (c .before .if1 .left))) in
+    (omega (arith, l), omega (arith, l, e, c .port-place .ensures))
 
 returns-2 : tie.Need-returns-2
 unfolding sharedIn sharedPlace headWidths sum

@@ -1,9 +1,9 @@
 -- `image::writer::put` meets its contract: in both loops, what is still to be written gives the whole image.
-use mathlib.Core.Path.{_≡_, sym, ap, _∙_}
+-- It is long because the function has two loops over lists of two kinds, and four places between them.
+use mathlib.Core.Path.{sym, _∙_}
 use mathlib.Core.List.{List, [], _++_, append-nil}
 use Prim.Native.Nat.{ℕ, _+_, _-_, _≤_}
 use native.Mathlib.Omega.{arith}
-use borrow.Author.Needs.{needs}
 use lib.ListN.{length, length-map}
 use lib.Seq.{sets}
 use Rattle.model.specs.declared.Table.{Table}
