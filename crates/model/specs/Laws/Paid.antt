@@ -10,7 +10,7 @@ use Rattle.model.specs.declared.Outcome.{Outcome}
 use Rattle.model.specs.declared.Answer.the-variants.{BadTable, NoSuchPort}
 use Rattle.model.specs.Table.{Sized, portAt}
 use Rattle.model.specs.Good.{sizeGood, good}
-use Rattle.model.specs.Event.{numberOf, firstOf, refusals, refusal, stepping, carried, eventGood, event}
+use Rattle.model.specs.Event.{numberOf, firstOf, refusals, refusal, stepping, free, carried, eventGood, event}
 use Rattle.model.specs.Run.{Order, after, ran, codeOf, codes}
 use Rattle.model.specs.Paid.{placed, paidAnswer, paidEvent, paidRan, paidCodes}
 use Rattle.model.specs.Laws.Tests.{split}
@@ -63,3 +63,8 @@ unfolding paidCodes codes
 paid-codes t [] s g = refl
 paid-codes t (o ∷ os) s g =
     rw (paid-event t (o .port) (o .event) g, paid-codes (after t o) os (after-sized t o s) (good-after t o s g))
+
+-- a port at or above d is refused
+pub no-port : (t : Table) (k e : ℕ) → good t ≡ true → t .shared .d ≤ k → event t k e ≡ free NoSuchPort t
+unfolding event eventGood refusal firstOf
+no-port t k e g h = rw (g, le-leb (t .shared .d) k h)

@@ -1,0 +1,191 @@
+-- `listing::runs::feed` meets its contract: before each turn, what is still to do gives the run, the counts and the text of the whole piece. A turn does what
+-- the definitions say of its byte, in each of the four ways it can go.
+use mathlib.Core.Path.{_≡_, refl, sym, _∙_}
+use mathlib.Core.Bool.{true}
+use mathlib.Core.List.{List}
+use Prim.Native.Nat.{ℕ, _+_, _-_, _*_, _≤_, _<_}
+use native.Mathlib.Omega.{arith}
+use borrow.Author.Needs.{needs}
+use lib.ListN.{length}
+use Rattle.listing.specs.declared.Run.{Run}
+use Rattle.lines.specs.declared.Act.{Act}
+use Rattle.lines.specs.declared.Act.the-variants.{Keep, Open, Order, Bad}
+use Rattle.lines.specs.Reading.{live}
+use Rattle.listing.specs.Feed.{longest, acted, actText}
+use Rattle.listing.specs.Laws.Put.{Put, limit}
+use Rattle.listing.specs.Laws.Taking.{Taking, put-nothing, going, begins, turns, ends}
+use Rattle.listing.proofs.runs.feed.Statement.{statement}
+use Rattle.listing.proofs.runs.feed.Tie as tie
+
+abbrev Inv-loop : tie.InvT-loop
+Inv-loop input out₀ table₀ number₀ part₀ stage₀ taken₀ written₀ out table number part stage taken written =
+    Taking input out₀ (record { table = table₀; number = number₀; part = part₀; stage = stage₀ }) out (record { table = table; number = number; part = part; stage = stage }) taken written
+
+abbrev μ-loop : tie.MeasureT-loop
+μ-loop input out₀ table₀ number₀ part₀ stage₀ taken₀ written₀ out table number part stage taken written =
+    length input - taken
+
+-- what the loop's test says in a turn
+module _ (c : tie.Then1 Inv-loop μ-loop) where
+  tests : (c .before .before .loop .taken < length (c .before .before .before .before .before .before .args .input .now)) × (longest ≤ length (c .before .before .loop .out) - c .before .before .loop .written) × (c .before .live .result ≡ true)
+  tests = going _ _ _ _ _ (c .if1 .taken)
+
+  alive : live (c .before .before .loop .stage) ≡ true
+  alive = sym (c .before .live .ensures) ∙ tests .2
+
+  fits-input : length (c .before .before .before .before .before .before .args .input .now) * 1 < limit
+  fits-input = c .before .before .before .before .before .before .good .1 .0 .1
+
+  fits-out : length (c .before .before .before .before .before .before .args .out .now) * 1 < limit
+  fits-out = c .before .before .before .before .before .before .good .1 .1 .0 .1
+
+  room-left : c .before .before .loop .written + longest < limit
+  room-left = omega (arith, tests .1, fits-out, c .before .before .loop .inv .inside, c .before .before .loop .inv .long)
+
+-- the run before a turn
+abbrev run-at : tie.After-act Inv-loop μ-loop → Run
+run-at c =
+    let l = c .before .before .before .before .loop in
+    record { table = l .table; number = l .number; part = l .part; stage = l .stage }
+
+-- a turn that does what the definitions say
+turned : (c : tie.After-act Inv-loop μ-loop) (exit : List ℕ) (s : Run) (w : ℕ) (a : Act)
+    → c .act .result ≡ a
+    → s ≡ acted (run-at c) a
+    → Put (c .before .before .before .before .loop .out) (c .before .before .before .before .loop .written) (actText (run-at c) a) longest w exit
+    → Taking
+    (c .before .before .before .before .before .before .before .before .args .input .now)
+    (c .before .before .before .before .before .before .before .before .args .out .now)
+    (c .before .before .before .before .before .before .before .before .args .run)
+    exit
+    s
+    (c .before .before .before .before .loop .taken + 1)
+    w
+turned c exit s w a e f p =
+    let l = c .before .before .before .before .loop in
+    turns _ _ _ (l .out) exit (run-at c) s (l .taken) (l .written) w a (tests (c .before .before) .0) (tests (c .before .before) .1) (alive (c .before .before)) (sym e ∙ c .act .ensures) f p (l .inv)
+
+loop-holds : tie.Need-loop-holds Inv-loop μ-loop
+loop-holds c = begins _ _ _
+
+sub-if1 : tie.Need-sub-if1 Inv-loop μ-loop
+sub-if1 c = omega (arith, c .loop .inv .inside, c .loop .inv .long)
+
+live-requires : tie.Need-live-requires Inv-loop μ-loop
+live-requires c κs = search needs
+
+shared-slice-read-act : tie.Need-shared-slice-read-act Inv-loop μ-loop
+shared-slice-read-act c = tests (c .before) .0
+
+act-requires : tie.Need-act-requires Inv-loop μ-loop
+act-requires c κs = search needs
+
+add-taken : tie.Need-add-taken Inv-loop μ-loop
+add-taken c = omega (arith, tests (c .before .before) .0, fits-input (c .before .before))
+
+enum-known-act : tie.Need-enum-known-act Inv-loop μ-loop
+enum-known-act c = search needs
+
+loop-less : tie.Need-loop-less Inv-loop μ-loop
+loop-less c = omega (arith, tests (c .before .before .before .before .before) .0)
+
+loop-again : tie.Need-loop-again Inv-loop μ-loop
+unfolding acted actText
+loop-again c = turned (c .before .before .before) _ _ _ (Keep _) (c .before .act2 .given .1) refl put-nothing
+
+enum-known-act-2 : tie.Need-enum-known-act-2 Inv-loop μ-loop
+enum-known-act-2 c = search needs
+
+fresh-requires : tie.Need-fresh-requires Inv-loop μ-loop
+fresh-requires c κs = search needs
+
+loop-less-2 : tie.Need-loop-less-2 Inv-loop μ-loop
+loop-less-2 c = omega (arith, tests (c .before .before .before .before .before .before .before) .0)
+
+loop-again-2 : tie.Need-loop-again-2 Inv-loop μ-loop
+unfolding acted actText
+loop-again-2 c = turned (c .before .before .before .before .before) _ _ _ (Open _) (c .before .before .before .act3 .given .1) (rw (c .before .fresh .ensures)) put-nothing
+
+enum-known-act-3 : tie.Need-enum-known-act-3 Inv-loop μ-loop
+enum-known-act-3 c = search needs
+
+paid-requires : tie.Need-paid-requires Inv-loop μ-loop
+paid-requires c κs = search needs
+
+point-at-requires : tie.Need-point-at-requires Inv-loop μ-loop
+point-at-requires c κs = search needs
+
+row-requires : tie.Need-row-requires Inv-loop μ-loop
+row-requires c κs = search needs
+
+put-row-requires : tie.Need-put-row-requires Inv-loop μ-loop
+put-row-requires c κs = omega (arith, room-left (c .before .before .before .before .before .before .before .before .before .before))
+
+wrapping-add-u64-requires : tie.Need-wrapping-add-u64-requires Inv-loop μ-loop
+wrapping-add-u64-requires c κs = search needs
+
+loop-less-3 : tie.Need-loop-less-3 Inv-loop μ-loop
+loop-less-3 c = omega (arith, tests (c .before .before .before .before .before .before .before .before .before .before .before .before .before .before) .0)
+
+loop-again-3 : tie.Need-loop-again-3 Inv-loop μ-loop
+unfolding acted actText
+loop-again-3 c =
+    turned (c .before .before .before .before .before .before .before .before .before .before .before .before) _ _ _ (Order _ _ _) (c .before .before .before .before .before .before .before .before .before .before .act4 .given .1)
+    (rw (c .before .before .before .before .before .before .before .before .paid .ensures, c .wrapping-add-u64 .ensures))
+    (rw (← (c .before .before .before .before .before .before .before .before .paid .ensures), ← (c .before .before .before .before .before .before .point-at .ensures), ← (c .before .before .before .before .before .row .ensures)) (c .before .before .before .put-row .ensures))
+
+enum-told : tie.Need-enum-told Inv-loop μ-loop
+enum-told c = search needs
+
+put-bad-requires : tie.Need-put-bad-requires Inv-loop μ-loop
+put-bad-requires c κs = omega (arith, room-left (c .before .before .before .before .before))
+
+loop-less-4 : tie.Need-loop-less-4 Inv-loop μ-loop
+loop-less-4 c = omega (arith, tests (c .before .before .before .before .before .before .before .before) .0)
+
+loop-again-4 : tie.Need-loop-again-4 Inv-loop μ-loop
+unfolding acted actText
+loop-again-4 c = turned (c .before .before .before .before .before .before) _ _ _ Bad (c .before .before .before .before .enum-told .given .1) refl (c .before .before .put-bad .ensures)
+
+same-length : tie.Need-same-length Inv-loop μ-loop
+same-length c = c .before .before .loop .inv .long
+
+returns : tie.Need-returns Inv-loop μ-loop
+returns c =
+    let l = c .before .before .loop in
+    let e = ends _ _ _ (l .out) (record { table = l .table; number = l .number; part = l .part; stage = l .stage }) (l .taken) (l .written) (rw (c .before .live .ensures) at (c .if1 .left)) (l .inv) in
+    (e .0, (e .1, (l .inv .upto, l .inv .inside)))
+
+pub feed-spec : {M : Type 1} → statement M
+feed-spec =
+    tie.close
+    (tie.spec
+    Inv-loop
+    μ-loop
+    loop-holds
+    sub-if1
+    live-requires
+    shared-slice-read-act
+    act-requires
+    add-taken
+    enum-known-act
+    loop-less
+    loop-again
+    enum-known-act-2
+    fresh-requires
+    loop-less-2
+    loop-again-2
+    enum-known-act-3
+    paid-requires
+    point-at-requires
+    row-requires
+    put-row-requires
+    wrapping-add-u64-requires
+    loop-less-3
+    loop-again-3
+    enum-told
+    put-bad-requires
+    loop-less-4
+    loop-again-4
+    same-length
+    returns)

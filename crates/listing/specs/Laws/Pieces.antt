@@ -1,0 +1,229 @@
+-- What a run prints of an input, whatever the pieces and the rooms: the listing.
+use mathlib.Core.Path.{_≡_, refl, sym, ap, _∙_}
+use mathlib.Core.Bool.{true, false, cond, _&&_, and-eq-true-iff, true≢false}
+use mathlib.Core.List.{List, [], _∷_, _++_, append-nil, append-assoc}
+use Prim.Native.Nat.{ℕ, _+_, _-_, _%_, _≤_, _<_}
+use native.Mathlib.Omega.{arith}
+use borrow.Author.Tests.{eq-eqb}
+use lib.Dec.{eqb, leb}
+use lib.ListN.{length, drop}
+use lib.Seq.{append-snoc}
+use Rattle.model.specs.declared.Table.{Table}
+use Rattle.model.specs.Table.{Sized, freshTable}
+use Rattle.model.specs.Good.{sizeGood, good}
+use Rattle.model.specs.Event.{event, fresh}
+use Rattle.model.specs.Run.{order}
+use Rattle.model.specs.Paid.{paidEvent}
+use Rattle.model.specs.Laws.Tests.{split}
+use Rattle.model.specs.Laws.After.{after-sized}
+use Rattle.model.specs.Laws.Kept.{good-after, made-good, made-sized}
+use Rattle.model.specs.Laws.Paid.{paid-event}
+use Rattle.lines.specs.declared.Part.{Part}
+use Rattle.lines.specs.declared.Stage.{Stage}
+use Rattle.lines.specs.declared.Stage.the-variants.{Opening, Running, Over}
+use Rattle.lines.specs.declared.Read.{Read}
+use Rattle.lines.specs.declared.Read.the-variants.{More, Line, Malformed}
+use Rattle.lines.specs.declared.Act.{Act}
+use Rattle.lines.specs.declared.Act.the-variants.{Keep, Open, Order, Bad}
+use Rattle.listing.specs.declared.Run.{Run}
+use Rattle.lines.specs.Line.{newline, wellFormed, letter, number, eventOf, isOpening, isEvent, opens, orders, lines}
+use Rattle.listing.specs.Text.{printed, rowOf, bad}
+use Rattle.listing.specs.Listing.{listed, opened}
+use Rattle.lines.specs.Reading.{read, readAct, lineAct, act, live}
+use Rattle.listing.specs.Feed.{longest, acted, actText, Given, nothing, after, feeding}
+use Rattle.lines.specs.Laws.Lines.{restOfLine, first-line}
+use Rattle.lines.specs.Parts.{bytesOf, Fair, Told}
+use Rattle.lines.specs.Laws.Parts.{fair-clear, told}
+
+-- what a run prints from here on: the lines of what it has read of a line and of what is left of the input
+abbrev pub restBy : Stage → Table → ℕ → List (List ℕ) → List ℕ
+restBy Opening t n ls = opened ls
+restBy Running t n ls = listed t n ls
+restBy Over t n ls = []
+
+abbrev pub rest : Run → List ℕ → List ℕ
+rest r input = restBy (r .stage) (r .table) (r .number) (lines (bytesOf (r .part) ++ input))
+
+-- before its first line a run is at line 0
+abbrev pub First : Stage → ℕ → Type 0
+First Opening n = n ≡ 0
+First Running n = Unit {0}
+First Over n = Unit {0}
+
+-- a well-formed line and a malformed one, first and later
+module _ (line : List ℕ) (ls : List (List ℕ)) where
+  opened-line : (l n : ℕ) → wellFormed line ≡ true → letter line ≡ l → number line ≡ n
+      → opened (line ∷ ls) ≡ cond (isOpening l n) (listed (freshTable n) 1 ls) (bad 0)
+  unfolding opened opens
+  opened-line l n w p q = rw (w, p, q)
+
+  pub opened-bad : wellFormed line ≡ false → opened (line ∷ ls) ≡ bad 0
+  unfolding opened opens
+  opened-bad w = rw w
+
+  listed-line : (t : Table) (k l n : ℕ) → wellFormed line ≡ true → letter line ≡ l → number line ≡ n
+      → listed t k (line ∷ ls)
+      ≡ cond (isEvent l) (printed (rowOf k l n (event t n (eventOf l))) ++ listed (event t n (eventOf l) .table) (k + 1) ls) (bad k)
+  unfolding listed orders
+  listed-line t k l n w p q = rw (w, p, q)
+
+  pub listed-bad : (t : Table) (k : ℕ) → wellFormed line ≡ false → listed t k (line ∷ ls) ≡ bad k
+  unfolding listed orders
+  listed-bad t k w = rw w
+
+-- the table of a run that its own calls can give: a good one
+pub record Sure (t : Table) : Type 0 where
+  pub sized : Sized t
+  pub sound : good t ≡ true
+
+pub sure-fresh : (d : ℕ) → Sure (fresh d .table)
+sure-fresh d = record { sized = made-sized d; sound = made-good d }
+
+sure-order : (t : Table) (k e : ℕ) → Sure t → Sure (paidEvent t k e .table)
+sure-order t k e y =
+    rw (paid-event t k e (y .sound))
+    (record { sized = after-sized t (order k e) (y .sized); sound = good-after t (order k e) (y .sized) (y .sound) })
+
+-- a byte and what a run does with it: what is printed now and later is what was to be printed
+record Step (r : Run) (b : ℕ) (bs : List ℕ) (a : Act) : Type 0 where
+  text : rest r (b ∷ bs) ≡ actText r a ++ rest (acted r a) bs
+  fair : Fair (acted r a .part)
+  first : First (acted r a .stage) (acted r a .number)
+  count : acted r a .number ≤ r .number + 1
+  sure : Sure (acted r a .table)
+
+abbrev at : Stage → Table → ℕ → Part → Run
+at s t n p = record { table = t; number = n; part = p; stage = s }
+
+module _ (t : Table) (n : ℕ) (p : Part) (b : ℕ) (bs : List ℕ) (f : Fair p) (h : n + 1 < 18446744073709551616) (y : Sure t) where
+  after-more : (s : Stage) (q : Part) → Told p b (More q) → First s n → Step (at s t n p) b bs (Keep q)
+  unfolding acted actText
+  after-more s q d i =
+      record {
+        text = ap (λ (xs : List ℕ). restBy s t n (lines xs)) (sym (append-snoc (bytesOf p) b bs) ∙ ap (λ (xs : List ℕ). xs ++ bs) (sym (d .0)));
+        fair = d .1;
+        first = i;
+        count = omega arith;
+        sure = y;
+      }
+
+  -- the line that the byte stands in, malformed
+  malformed : Told p b Malformed → wellFormed (bytesOf p ++ b ∷ restOfLine b bs) ≡ false
+  malformed d = d (restOfLine b bs) (λ e. rw (eq-eqb b newline e))
+
+  after-bad : (s : Stage) → live s ≡ true → Told p b Malformed → First s n → Step (at s t n p) b bs Bad
+  unfolding acted actText
+  after-bad Opening v d i =
+      record {
+        text = rw (first-line (bytesOf p) b bs (fair-clear p f), i) (opened-bad _ _ (malformed d) ∙ sym (append-nil (bad 0)));
+        fair = f;
+        first = tt;
+        count = omega arith;
+        sure = y;
+      }
+  after-bad Running v d i =
+      record {
+        text = rw (first-line (bytesOf p) b bs (fair-clear p f)) (listed-bad _ _ t n (malformed d) ∙ sym (append-nil (bad n)));
+        fair = f;
+        first = tt;
+        count = omega arith;
+        sure = y;
+      }
+  after-bad Over v d i = absurd (true≢false (sym v))
+
+  -- the line that the byte ends, well formed, and the lines after it
+  module _ (l m : ℕ) (d : Told p b (Line l m)) where
+    ended-line : lines (bytesOf p ++ b ∷ bs) ≡ (bytesOf p ++ newline ∷ []) ∷ lines bs
+    ended-line = rw (d .0) (first-line (bytesOf p) newline bs (fair-clear p f))
+
+    after-opening : First Opening n → Step (at Opening t n p) b bs (lineAct Opening l m)
+    unfolding acted actText isOpening fresh
+    after-opening i =
+        split (Step (at Opening t n p) b bs) (isOpening l m) (Open m) Bad
+        (λ e.
+        record {
+          text =
+              rw (ended-line)
+              (opened-line _ _ l m (d .1) (d .2) (d .3)
+              ∙ (rw (e, and-eq-true-iff (eqb l 68) (sizeGood m) .0 e .1)));
+          fair = tt;
+          first = tt;
+          count = omega arith;
+          sure = sure-fresh m;
+        })
+        (λ e.
+        record {
+          text = rw (ended-line, i) (opened-line _ _ l m (d .1) (d .2) (d .3) ∙ (rw e (sym (append-nil (bad 0)))));
+          fair = f;
+          first = tt;
+          count = omega arith;
+          sure = y;
+        })
+
+    after-order : Step (at Running t n p) b bs (lineAct Running l m)
+    unfolding acted actText
+    after-order =
+        let k : (n + 1) % 18446744073709551616 ≡ n + 1 = omega (arith, h) in
+        split (Step (at Running t n p) b bs) (isEvent l) (Order l (eventOf l) m) Bad
+        (λ e.
+        record {
+          text = rw (ended-line) (listed-line _ _ t n l m (d .1) (d .2) (d .3) ∙ (rw (e, k, paid-event t m (eventOf l) (y .sound))));
+          fair = tt;
+          first = tt;
+          count = omega (arith, k);
+          sure = sure-order t m (eventOf l) y;
+        })
+        (λ e.
+        record {
+          text = rw (ended-line) (listed-line _ _ t n l m (d .1) (d .2) (d .3) ∙ (rw e (sym (append-nil (bad n)))));
+          fair = f;
+          first = tt;
+          count = omega arith;
+          sure = y;
+        })
+
+  after-read : (s : Stage) (q : Read) → live s ≡ true → Told p b q → First s n → Step (at s t n p) b bs (readAct s q)
+  after-read s (More q) v d i = after-more s q d i
+  after-read s Malformed v d i = after-bad s v d i
+  after-read Opening (Line l m) v d i = after-opening l m d i
+  after-read Running (Line l m) v d i = after-order l m d
+  after-read Over (Line l m) v d i = absurd (true≢false (sym v))
+
+-- a run that its own calls can give: a part of a line that reading gives, line 0 before the first line, and a good table
+pub record Ready (r : Run) : Type 0 where
+  pub fair : Fair (r .part)
+  pub first : First (r .stage) (r .number)
+  pub sure : Sure (r .table)
+
+-- a piece of input, with more to come: what it prints and what is printed later is what was to be printed
+pub record Passed (r : Run) (piece more : List ℕ) (g : Given) : Type 0 where
+  pub text : rest r (piece ++ more) ≡ g .text ++ rest (g .run) (drop (g .taken) piece ++ more)
+  pub ready : Ready (g .run)
+  pub count : g .run .number ≤ r .number + g .taken
+  pub upto : g .taken ≤ length piece
+
+pub passes : (piece : List ℕ) (room : ℕ) (r : Run) (more : List ℕ) → Ready r → r .number + length piece < 18446744073709551616
+    → Passed r piece more (feeding room r piece)
+unfolding feeding
+passes [] room r more y h = record { text = refl; ready = y; count = omega arith; upto = omega arith }
+passes (b ∷ bs) room r more y h =
+    let a = act (r .stage) (r .part) b in
+    split (Passed r (b ∷ bs) more) (leb longest room && live (r .stage))
+    (after (actText r a) (feeding (room - length (actText r a)) (acted r a) bs))
+    (nothing r)
+    (λ e.
+    let v = and-eq-true-iff (leb longest room) (live (r .stage)) .0 e .1 in
+    let s = after-read (r .table) (r .number) (r .part) b (bs ++ more) (y .fair) (omega (arith, h)) (y .sure) (r .stage) (read (r .part) b) v
+    (told (r .part) b (y .fair))
+    (y .first) in
+    let k = passes bs (room - length (actText r a)) (acted r a) more (record { fair = s .fair; first = s .first; sure = s .sure }) (omega (arith, h, s .count)) in
+    record {
+      text =
+          s .text
+          ∙ ap (λ (xs : List ℕ). actText r a ++ xs) (k .text)
+          ∙ sym (append-assoc (actText r a) _ _);
+      ready = k .ready;
+      count = omega (arith, s .count, k .count);
+      upto = omega (arith, k .upto);
+    })
+    (λ e. record { text = refl; ready = y; count = omega arith; upto = omega arith })

@@ -1,0 +1,122 @@
+-- A run's loop over a piece of input: what is still to do gives what the definitions say of the whole piece.
+use mathlib.Core.Path.{_≡_, refl, sym, ap, _∙_}
+use mathlib.Core.Bool.{Bool, true, false, _&&_, and-eq-true-iff}
+use mathlib.Core.List.{List, [], _∷_}
+use Prim.Native.Nat.{ℕ, _+_, _-_, _≤_, _<_}
+use native.Mathlib.Nat.{sub-zero, add-zero}
+use native.Mathlib.Numerals.{add-one}
+use native.Mathlib.Omega.{arith}
+use borrow.Author.Tests.{ltb-true, ltb-false, leb-true, le-leb}
+use lib.Dec.{ltb, leb}
+use lib.ListN.{length, getD, drop, length-append, drop-of-length-le}
+use lib.Seq.{sets, drop-cons, length-sets}
+use Rattle.listing.specs.declared.Run.{Run}
+use Rattle.lines.specs.declared.Act.{Act}
+use Rattle.listing.specs.declared.Fed.{Fed}
+use Rattle.lines.specs.Reading.{act, live}
+use Rattle.listing.specs.Feed.{longest, acted, actText, nothing, after, feeding, fedOf}
+use Rattle.listing.specs.Laws.Put.{Put, sets-append}
+
+-- nothing is put
+pub put-nothing : {out : List ℕ} {at : ℕ} → Put out at [] longest at out
+put-nothing {out} {at} = record { place = sym (add-zero at); short = omega arith; bytes = refl }
+
+-- the three parts of the loop's test
+pub going : (i n l m : ℕ) (v : Bool) → (ltb i n && leb l m && v) ≡ true → (i < n) × (l ≤ m) × (v ≡ true)
+going i n l m v h =
+    let p = and-eq-true-iff (ltb i n && leb l m) v .0 h in
+    let q = and-eq-true-iff (ltb i n) (leb l m) .0 (p .0) in
+    (ltb-true i n (q .0), leb-true l m (q .1), p .1)
+
+-- one byte more
+next-byte : (room : ℕ) (r : Run) (input : List ℕ) (i : ℕ) → i < length input → longest ≤ room → live (r .stage) ≡ true
+    → feeding room r (drop i input)
+    ≡ after (actText r (act (r .stage) (r .part) (getD input i 0)))
+    (feeding
+    (room - length (actText r (act (r .stage) (r .part) (getD input i 0))))
+    (acted r (act (r .stage) (r .part) (getD input i 0)))
+    (drop (i + 1) input))
+unfolding feeding
+next-byte room r input i h l v = rw (drop-cons input i 0 h, le-leb longest room l, v, add-one i)
+
+-- no byte more
+no-byte : (room : ℕ) (r : Run) (input : List ℕ) (i : ℕ) → (ltb i (length input) && leb longest room && live (r .stage)) ≡ false
+    → feeding room r (drop i input) ≡ nothing r
+unfolding feeding
+no-byte room r input i h = go (ltb i (length input)) refl h
+  where
+    go : (a : Bool) → ltb i (length input) ≡ a → (a && leb longest room && live (r .stage)) ≡ false
+        → feeding room r (drop i input) ≡ nothing r
+    go true e h = rw (drop-cons input i 0 (ltb-true i (length input) e), h)
+    go false e h = rw (drop-of-length-le input (ltb-false i (length input) e))
+
+-- the loop over `input`, from the run r₀ and the buffer out₀, with the run r, the buffer out, and so many bytes taken and written
+pub record Taking (input out₀ : List ℕ) (r₀ : Run) (out : List ℕ) (r : Run) (taken written : ℕ) : Type 0 where
+  pub upto : taken ≤ length input
+  pub inside : written ≤ length out₀
+  pub long : length out ≡ length out₀
+  pub run : feeding (length out₀ - written) r (drop taken input) .run ≡ feeding (length out₀) r₀ input .run
+  pub count : taken + feeding (length out₀ - written) r (drop taken input) .taken ≡ feeding (length out₀) r₀ input .taken
+  pub size : written + length (feeding (length out₀ - written) r (drop taken input) .text) ≡ length (feeding (length out₀) r₀ input .text)
+  pub bytes : sets out written (feeding (length out₀ - written) r (drop taken input) .text) ≡ sets out₀ 0 (feeding (length out₀) r₀ input .text)
+
+module _ (input out₀ : List ℕ) (r₀ : Run) where
+  pub begins : Taking input out₀ r₀ out₀ r₀ 0 0
+  begins =
+      record {
+        upto = omega arith;
+        inside = omega arith;
+        long = refl;
+        run = rw (sub-zero (length out₀));
+        count = rw (sub-zero (length out₀)) (omega arith);
+        size = rw (sub-zero (length out₀)) (omega arith);
+        bytes = rw (sub-zero (length out₀));
+      }
+
+  pub turns : (out exit : List ℕ) (r s : Run) (taken written w : ℕ) (a : Act)
+      → taken < length input
+      → longest ≤ length out - written
+      → live (r .stage) ≡ true
+      → a ≡ act (r .stage) (r .part) (getD input taken 0)
+      → s ≡ acted r a
+      → Put out written (actText r a) longest w exit
+      → Taking input out₀ r₀ out r taken written
+      → Taking input out₀ r₀ exit s (taken + 1) w
+  turns out exit r s taken written w a h l v e f p t =
+      let g = feeding (length out₀ - w) s (drop (taken + 1) input) in
+      let d : length out₀ - written - length (actText r a) ≡ length out₀ - w = omega (arith, p .place) in
+      let n : feeding (length out₀ - written) r (drop taken input) ≡ after (actText r a) g =
+      rw (f, ← d, e) (next-byte (length out₀ - written) r input taken h (rw (t .long) at l) v) in
+      record {
+        upto = omega (arith, h);
+        inside = omega (arith, l, p .place, p .short, t .inside, t .long);
+        long = ap length (p .bytes) ∙ length-sets out written (actText r a) ∙ t .long;
+        run = rw n at (t .run);
+        count = omega (arith, rw n at (t .count));
+        size = omega (arith, rw n at (t .size), p .place, length-append (actText r a) (g .text));
+        bytes =
+            ap (λ (x : List ℕ). sets x w (g .text)) (p .bytes)
+            ∙ ap (λ (k : ℕ). sets (sets out written (actText r a)) k (g .text)) (p .place)
+            ∙ sets-append (actText r a) (g .text) out written
+            ∙ (rw n at (t .bytes));
+      }
+
+  pub ends : (out : List ℕ) (r : Run) (taken written : ℕ)
+      → (ltb taken (length input) && leb longest (length out - written) && live (r .stage)) ≡ false
+      → Taking input out₀ r₀ out r taken written
+      → (record { run = r; taken = taken; written = written } ≡ fedOf (feeding (length out₀) r₀ input))
+      × (out ≡ sets out₀ 0 (feeding (length out₀) r₀ input .text))
+  ends out r taken written h t =
+      let n = no-byte (length out₀ - written) r input taken (rw (t .long) at h) in
+      let c : taken ≡ feeding (length out₀) r₀ input .taken = omega (arith, rw n at (t .count)) in
+      let s : written ≡ length (feeding (length out₀) r₀ input .text) = omega (arith, rw n at (t .size)) in
+      (fed (rw n at (t .run)) c s, rw n at (t .bytes))
+    where
+      fed : {a b : Run} {m n u v : ℕ} → a ≡ b → m ≡ n → u ≡ v
+          → _≡_ {A = Fed} (record { run = a; taken = m; written = u }) (record { run = b; taken = n; written = v })
+      fed p q e = rw (p, q, e)
+
+-- a byte is taken where there is one, room, and a run that is not at its end
+pub takes : (room : ℕ) (r : Run) (b : ℕ) (bs : List ℕ) → longest ≤ room → live (r .stage) ≡ true → 1 ≤ feeding room r (b ∷ bs) .taken
+unfolding feeding
+takes room r b bs l v = rw (le-leb longest room l, v) (omega arith)

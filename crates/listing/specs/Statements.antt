@@ -1,0 +1,73 @@
+-- What is proved of the listing, for a reader who knows the definitions and no proof. A statement stands under a comment that says in words what it
+-- means; the line below it names its proof.
+use mathlib.Core.Path.{_≡_, sym, _∙_}
+use mathlib.Core.Bool.{true, false}
+use mathlib.Core.List.{List, [], _∷_, _++_}
+use Prim.Native.Nat.{ℕ, _+_, _≤_, _<_, _^_}
+use lib.ListN.{length}
+use lib.Seq.{sets}
+use Rattle.model.specs.declared.Table.{Table}
+use Rattle.model.specs.Good.{good}
+use Rattle.model.specs.Event.{numberOf, event}
+use Rattle.model.specs.Laws.Paid.{no-port}
+use Rattle.listing.specs.declared.Run.{Run}
+use Rattle.listing.specs.declared.Fed.{Fed}
+use Rattle.lines.specs.Line.{space, orders, letter, number}
+use Rattle.listing.specs.Text.{decimal, readOn, dash, cell, pointText, stateText, printed, rowOf, bad}
+use Rattle.listing.specs.Listing.{answered, listed, listing}
+use Rattle.lines.specs.Reading.{live}
+use Rattle.listing.specs.Feed.{longest, feeding, fedOf, starting, ended}
+use Rattle.listing.specs.Chain.{Prints}
+use Rattle.listing.specs.Laws.Value.{read-back}
+use Rattle.listing.specs.Laws.Taking.{takes}
+use Rattle.listing.specs.Laws.End.{from-start}
+
+-- Whatever the pieces in which an input arrives, and whatever the rooms that are lent for the text, a run from the start prints the input's listing.
+-- (The line number has 64 bits. An input of 2 ^ 64 bytes, for which it could be too small, takes longer than the machine lasts.)
+pub in-pieces : (input text : List ℕ) → length input < 2 ^ 64 → Prints starting input text → text ≡ listing input
+in-pieces input text h p = from-start p h
+
+-- Every call gets on: while a run is not at its end, a piece that is not empty and a room for the longest line see a byte taken
+pub gets-on : (room : ℕ) (r : Run) (b : ℕ) (bs : List ℕ) → longest ≤ room → live (r .stage) ≡ true → 1 ≤ feeding room r (b ∷ bs) .taken
+gets-on = takes
+
+-- 'A malformed line prints BAD and its number, and ends the run': whatever follows it
+pub ends-there : (t : Table) (n : ℕ) (l : List ℕ) (ls : List (List ℕ)) → orders l ≡ false → listed t n (l ∷ ls) ≡ bad n
+unfolding listed
+ends-there t n l ls h = rw h
+
+-- Every other line prints its own line, whatever follows: line n's listing can be checked with the table so far and the line alone
+pub line-by-line : (t : Table) (n : ℕ) (l : List ℕ) (ls : List (List ℕ)) → orders l ≡ true
+    → listed t n (l ∷ ls) ≡ printed (rowOf n (letter l) (number l) (answered t l)) ++ listed (answered t l .table) (n + 1) ls
+unfolding listed
+line-by-line t n l ls h = rw h
+
+-- 'Point after (`-` if no such port)': a port at or above D is answered 2 and `-`, whatever the event
+pub absent-port : (t : Table) (k e point active : ℕ) → good t ≡ true → t .shared .d ≤ k
+    → stateText (numberOf (event t k e .answer)) point active ≡ cell 2 space ++ (dash ∷ space ∷ []) ++ cell active space
+unfolding stateText pointText
+absent-port t k e point active g h = rw (no-port t k e g h)
+
+-- 'All numbers in decimal': the digits of a number stand for it
+pub in-decimal : (n : ℕ) → readOn 0 (decimal n) ≡ n
+in-decimal = read-back
+
+-- Two results that meet a promise are equal, and so are two contents of the buffer
+pub feed-one : (r : Run) (input out : List ℕ) (f g : Fed) (x y : List ℕ)
+    → f ≡ fedOf (feeding (length out) r input)
+    → x ≡ sets out 0 (feeding (length out) r input .text)
+    → g ≡ fedOf (feeding (length out) r input)
+    → y ≡ sets out 0 (feeding (length out) r input .text)
+    → (f ≡ g) × (x ≡ y)
+feed-one r input out f g x y p q u v = (p ∙ sym u, q ∙ sym v)
+
+pub finish-one : (r : Run) (out : List ℕ) (m n : ℕ) (x y : List ℕ)
+    → m ≡ length (ended r)
+    → x ≡ sets out 0 (ended r)
+    → n ≡ length (ended r)
+    → y ≡ sets out 0 (ended r)
+    → (m ≡ n) × (x ≡ y)
+finish-one r out m n x y p q u v = (p ∙ sym u, q ∙ sym v)
+
+pub start-one : (r s : Run) → r ≡ starting → s ≡ starting → r ≡ s
+start-one r s p q = p ∙ sym q
