@@ -8,10 +8,12 @@ use model::Shared;
 use model::Table;
 use model::Word;
 use model::Work;
+use points::masks;
 use rules::good;
 ghost use mathlib.Core.Path.{_≡_};
 ghost use Rattle.model.specs.Table.{noWork, freshTable};
 ghost use Rattle.model.specs.Event as Event;
+ghost use Rattle.model.specs.Paid as Paid;
 
 const ENTER: u64 = 1;
 
@@ -22,6 +24,10 @@ const CRASH: u64 = 3;
 const CALL_OFF: u64 = 4;
 
 const LEAVE: u64 = 5;
+
+const BAD_TABLE: u64 = 1;
+
+const NO_SUCH_PORT: u64 = 2;
 
 // Document 01's number of an answer.
 pub fn number(answer: Answer) -> u64
@@ -138,6 +144,31 @@ pub fn refusal(event: u64, p: Port) -> Answer
         return Answer::Inside;
     }
     Answer::Done
+}
+
+// What a step needs of its port.
+fn placed(d: u64, p: Port) -> bool
+    ensures { λ r. ⌜ r ≡ Paid.placed d p ⌝ }
+{
+    ((p.work.seenowner as u64) < d) & ((p.work.candidate as u64) < d) & (p.made <= good::MOST)
+}
+
+// The number that an order answers before anything is changed, from what all share and its port.
+pub fn first(s: Shared, k: u64, event: u64, p: Port) -> u64
+    ensures { λ r. ⌜ r ≡ Event.numberOf (Paid.paidAnswer s k event p) ⌝ }
+{
+    let d = s.d;
+    if !(good::size_good(d) & masks::within(d, s.active)) {
+        return BAD_TABLE;
+    }
+    if d <= k {
+        return NO_SUCH_PORT;
+    }
+    if !placed(d, p) {
+        return BAD_TABLE;
+    }
+    let a = refusal(event, p);
+    number(a)
 }
 
 // A port after an event that is no step.

@@ -4,24 +4,16 @@ use crate::costs;
 use answers::STEP;
 use model::Answer;
 use model::Made;
-use model::Port;
 use model::ROOM;
-use model::Shared;
 use model::Table;
-use points::masks;
 use points::places;
 use rules::good;
 ghost use mathlib.Core.Path.{_≡_};
 ghost use Prim.Native.Nat.{ℕ, _+_, _*_, _<_, min};
 ghost use lib.Seq.{sets};
 ghost use Rattle.model.specs.Table.{room};
-ghost use Rattle.model.specs.Event.{numberOf};
 ghost use Rattle.model.specs.Run as Run;
 ghost use Rattle.model.specs.Paid as Paid;
-
-const BAD_TABLE: u64 = 1;
-
-const NO_SUCH_PORT: u64 = 2;
 
 fn least(a: usize, b: usize) -> usize
     ensures { λ r. ⌜ r ≡ min a b ⌝ }
@@ -44,31 +36,6 @@ fn slot(k: u64) -> usize
     if k < ROOM as u64 { k as usize } else { 0 }
 }
 
-// What a step needs of its port.
-fn placed(d: u64, p: Port) -> bool
-    ensures { λ r. ⌜ r ≡ Paid.placed d p ⌝ }
-{
-    ((p.work.seenowner as u64) < d) & ((p.work.candidate as u64) < d) & (p.made <= good::MOST)
-}
-
-// The number that an order answers before anything is changed, from what all share and its port.
-fn answer(s: Shared, k: u64, event: u64, p: Port) -> u64
-    ensures { λ r. ⌜ r ≡ numberOf (Paid.paidAnswer s k event p) ⌝ }
-{
-    let d = s.d;
-    if !(good::size_good(d) & masks::within(d, s.active)) {
-        return BAD_TABLE;
-    }
-    if d <= k {
-        return NO_SUCH_PORT;
-    }
-    if !placed(d, p) {
-        return BAD_TABLE;
-    }
-    let a = answers::refusal(event, p);
-    answers::number(a)
-}
-
 // Carries out orders on a table whose check has been paid: as many as there are pairs of port and event and places for their answers. answers[i] is what
 // order i answers: its number, 256 times its cached and 65,536 times its distributed cost. Gives the table after the last.
 pub fn carry(mut table: Table, orders: &[u64], answers: &mut [u64]) -> Table
@@ -82,7 +49,7 @@ pub fn carry(mut table: Table, orders: &[u64], answers: &mut [u64]) -> Table
         let event = orders[2 * i + 1];
         let k = slot(port);
         let own = table.ports[k];
-        let number = answer(table.shared, port, event, own);
+        let number = answers::first(table.shared, port, event, own);
         if number != 0 {
             answers[i] = number;
             i += 1;

@@ -52,7 +52,7 @@ unfolding room
 place c = c .slot .ensures .0
 
 -- the table before a turn, the turn's port and event, the place that is looked at, and what they answer
-module _ (c : tie.After-answer Inv-loop μ-loop) where
+module _ (c : tie.After-first Inv-loop μ-loop) where
   abbrev table-at : Table
   table-at = c .before .before .before .before .before .before .before .loop .table
 
@@ -65,8 +65,8 @@ module _ (c : tie.After-answer Inv-loop μ-loop) where
   abbrev slot-at : ℕ
   slot-at = c .before .before .before .slot .result
 
-  decides : c .answer .result ≡ numberOf (paidAnswer (table-at .shared) port-at event-at (portAt table-at port-at))
-  decides = c .answer .ensures ∙ ap numberOf (any-record table-at port-at event-at _ (c .before .before .before .slot .ensures .1))
+  decides : c .first .result ≡ numberOf (paidAnswer (table-at .shared) port-at event-at (portAt table-at port-at))
+  decides = c .first .ensures ∙ ap numberOf (any-record table-at port-at event-at _ (c .before .before .before .slot .ensures .1))
 
 -- no refusal stands against the order: it passed the tests, and its port stands at its own place
 module _ (c : tie.Else1 Inv-loop μ-loop) where

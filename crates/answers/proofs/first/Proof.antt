@@ -6,8 +6,8 @@ use Rattle.model.specs.Mask.{within}
 use Rattle.model.specs.Good.{sizeGood}
 use Rattle.model.specs.Event.{numberOf}
 use Rattle.model.specs.Paid.{placed, paidAnswer}
-use Rattle.lock.proofs.runs.answer.Statement.{statement}
-use Rattle.lock.proofs.runs.answer.Tie as tie
+use Rattle.answers.proofs.first.Statement.{statement}
+use Rattle.answers.proofs.first.Tie as tie
 
 -- what all share passes, or does not
 shares : (c : tie.Else1) → (sizeGood (c .before .before .before .args .s .d) && within (c .before .before .before .args .s .d) (c .before .before .before .args .s .active)) ≡ true
@@ -36,8 +36,8 @@ returns-4 c =
     rw (shares (e .before .before .before), lt-leb _ _ (e .before .before .if2 .left), sym (e .before .placed .ensures) ∙ not-false _ (e .if3 .left))
     (c .number .ensures ∙ ap numberOf (c .before .refusal .ensures))
 
-pub answer-spec : {M : Type 1} → statement M
-answer-spec =
+pub first-spec : {M : Type 1} → statement M
+first-spec =
     tie.close
     (tie.spec
     (λ c κs. search needs)

@@ -2,8 +2,8 @@ use borrow.Author.Needs.{needs}
 use mathlib.Core.Path.{refl}
 use Rattle.model.specs.Table.{most}
 use Rattle.model.specs.Paid.{placed}
-use Rattle.lock.proofs.runs.placed.Statement.{statement}
-use Rattle.lock.proofs.runs.placed.Tie as tie
+use Rattle.answers.proofs.placed.Statement.{statement}
+use Rattle.answers.proofs.placed.Tie as tie
 
 returns : tie.Need-returns
 unfolding placed most
