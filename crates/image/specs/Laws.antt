@@ -5,6 +5,7 @@ pub mod Rows
 pub mod Reading
 pub mod Sound
 pub mod Writing
+pub mod Checked
 pub mod Fits
 pub mod RoundTrip
 pub mod Again

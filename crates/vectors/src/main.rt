@@ -1,11 +1,10 @@
-// Runs the vectors of images, and every one-byte damage of one image; prints how many lines are right, and how often each number was answered.
+// Runs the vectors of images and of events, and every one-byte damage of one image; prints how many lines are right, and how often each number was answered.
+mod lines;
 mod text;
 
 use image::reader;
-use image::writer;
 use libc::STDOUT_FILENO;
-use text::SPACE;
-ghost use Prim.Native.Nat.{_<_, _≤_};
+ghost use Prim.Native.Nat.{_<_};
 
 // An image of two ports.
 const IMAGE: [u8; 74] = [
@@ -94,25 +93,6 @@ struct Tally {
     badimage: u64,
 }
 
-// One line: where the next begins, what was answered, and whether that and the bytes written back are those of the line.
-struct Line {
-    next: usize,
-    number: u64,
-    right: bool,
-}
-
-fn least(a: usize, b: usize) -> usize
-    ensures { λ r. ⌜ r ≤ b ⌝ }
-{
-    if a < b { a } else { b }
-}
-
-// The first n bytes, or all where there are fewer.
-fn start(s: &[u8], n: usize) -> &[u8] {
-    let m = least(n, s.len());
-    &s[..m]
-}
-
 fn more(n: u64, yes: bool) -> u64 {
     if yes {
         std::num::wrapping_add_u64(n, 1)
@@ -141,33 +121,8 @@ fn counted(t: Tally, number: u64, right: bool) -> Tally {
     }
 }
 
-// Reads an image and writes back the table that it gives: the number answered, and whether it and the bytes are those wanted.
-fn agrees(bytes: &[u8], number: u64, want: &[u8]) -> bool {
-    let made = reader::read(bytes);
-    let answer = made.answer;
-    let mut out = [0u8; SPACE];
-    let w = writer::write(made.table, &mut out);
-    (answers::number(answer) == number) & check::same(start(&out, w.length), want)
-}
-
-// The line at a place: an image, `-` for no bytes, the number, and the bytes written back.
-fn image_line(text: &[u8], at: usize) -> Line {
-    let mut bytes = [0u8; SPACE];
-    let n = text::bytes_at(text, at, &mut bytes);
-    let wide = if n == 0 { 1 } else { 2 * n };
-    let number = text::number_at(text, text::after(text::after(at, wide), 1));
-    let back = text::after(number.next, 1);
-    let mut want = [0u8; SPACE];
-    let m = text::bytes_at(text, back, &mut want);
-    Line {
-        next: text::after(text::after(back, 2 * m), 1),
-        number: number.value,
-        right: agrees(start(&bytes, n), number.value, start(&want, m)),
-    }
-}
-
 // All lines of a text, of which there are fewer than 1,000.
-fn images(text: &[u8]) -> Tally {
+fn all_lines(text: &[u8], events: bool) -> Tally {
     let mut t = nothing();
     let mut at: usize = 0;
     let mut k: u64 = 0;
@@ -175,7 +130,7 @@ fn images(text: &[u8]) -> Tally {
         if text.len() <= at {
             return t;
         }
-        let l = image_line(text, at);
+        let l = lines::line_at(text, at, events);
         t = counted(t, l.number, l.right);
         at = l.next;
         k += 1;
@@ -233,24 +188,25 @@ fn print_answers(t: Tally) {
     io::write_all(STDOUT_FILENO, b"\n");
 }
 
-fn run_images(text: &[u8]) {
-    let t = images(text);
-    print(b"images ", t.lines);
-    print(b" right ", t.right);
-    print_answers(t);
-}
-
-fn main() {
-    let path = b"images.txt";
+// Runs the lines of a file; it is shorter than the space for it.
+fn run_file(label: &[u8], path: &[u8], events: bool) {
     let fd = os::open_read(path);
     if fd < 0 {
         os::fail(path);
         return;
     }
-    let mut space = [0u8; 262144];
+    let mut space = [0u8; 600000];
     let n = io::read_full(fd, &mut space);
     libc::close(fd);
-    run_images(&space[..n]);
+    let t = all_lines(&space[..n], events);
+    print(label, t.lines);
+    print(b" right ", t.right);
+    print_answers(t);
+}
+
+fn main() {
+    run_file(b"images ", b"images.txt", false);
+    run_file(b"events ", b"events.txt", true);
     let t = damages();
     print(b"damages ", t.lines);
     print_answers(t);

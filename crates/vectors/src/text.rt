@@ -35,6 +35,18 @@ fn store(out: &mut [u8], i: usize, b: u8) {
     }
 }
 
+fn least(a: usize, b: usize) -> usize
+    ensures { λ r. ⌜ r ≤ b ⌝ }
+{
+    if a < b { a } else { b }
+}
+
+// The first n bytes, or all where there are fewer.
+pub fn start(s: &[u8], n: usize) -> &[u8] {
+    let m = least(n, s.len());
+    &s[..m]
+}
+
 // Reads bytes at a place into `out`, and gives how many there are.
 pub fn bytes_at(text: &[u8], at: usize, out: &mut [u8]) -> usize
     ensures { λ r. ⌜ r ≤ 400 ⌝ }

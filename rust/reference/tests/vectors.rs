@@ -1,4 +1,4 @@
-//! The vectors at the repository's root: events, images and schedules, made by an independent implementation of document 01.
+//! The vectors of images and events that the program `vectors` runs too, and the schedules and examples, made by an independent implementation of document 01.
 
 use reference::{event, listing::listing, read, write, LONGEST};
 use std::fs;
@@ -6,6 +6,10 @@ use std::path::PathBuf;
 
 fn tests() -> PathBuf {
     PathBuf::from(concat!(env!("CARGO_MANIFEST_DIR"), "/../../tests"))
+}
+
+fn data() -> PathBuf {
+    tests().join("../crates/vectors/data")
 }
 
 /// The bytes of a hexadecimal field; `-` is no bytes.
@@ -29,7 +33,7 @@ fn image(t: &reference::Table) -> Vec<u8> {
 
 #[test]
 fn events() {
-    let text = fs::read_to_string(tests().join("vectors/events.txt")).unwrap();
+    let text = fs::read_to_string(data().join("events.txt")).unwrap();
     let mut count = 0;
     for line in text.lines() {
         let fields: Vec<&str> = line.split(' ').collect();
@@ -50,7 +54,7 @@ fn events() {
 
 #[test]
 fn images() {
-    let text = fs::read_to_string(tests().join("vectors/images.txt")).unwrap();
+    let text = fs::read_to_string(data().join("images.txt")).unwrap();
     let mut count = 0;
     for line in text.lines() {
         let fields: Vec<&str> = line.split(' ').collect();

@@ -1,13 +1,13 @@
 use borrow.Author.Needs.{needs}
 use Prim.Native.Nat.{_-_, _≤_}
-use Rattle.vectors.proofs.images.Statement.{statement}
-use Rattle.vectors.proofs.images.Tie as tie
+use Rattle.vectors.proofs.all_lines.Statement.{statement}
+use Rattle.vectors.proofs.all_lines.Tie as tie
 
 abbrev Inv-loop : tie.InvT-loop
-Inv-loop text t₀ at₀ k₀ t at k = k ≤ 1000
+Inv-loop text events t₀ at₀ k₀ t at k = k ≤ 1000
 
 abbrev μ-loop : tie.MeasureT-loop
-μ-loop text t₀ at₀ k₀ t at k = 1000 - k
+μ-loop text events t₀ at₀ k₀ t at k = 1000 - k
 
 nothing-requires : tie.Need-nothing-requires Inv-loop μ-loop
 nothing-requires c κs = search needs
@@ -18,8 +18,8 @@ loop-holds c = search needs
 returns : tie.Need-returns Inv-loop μ-loop
 returns c = search needs
 
-image-line-requires : tie.Need-image-line-requires Inv-loop μ-loop
-image-line-requires c κs = search needs
+line-at-requires : tie.Need-line-at-requires Inv-loop μ-loop
+line-at-requires c κs = search needs
 
 counted-requires : tie.Need-counted-requires Inv-loop μ-loop
 counted-requires c κs = search needs
@@ -36,8 +36,8 @@ loop-again c = search needs
 returns-2 : tie.Need-returns-2 Inv-loop μ-loop
 returns-2 c = search needs
 
-pub images-spec : {M : Type 1} → statement M
-images-spec =
+pub all-lines-spec : {M : Type 1} → statement M
+all-lines-spec =
     tie.close
     (tie.spec
     Inv-loop
@@ -45,7 +45,7 @@ images-spec =
     nothing-requires
     loop-holds
     returns
-    image-line-requires
+    line-at-requires
     counted-requires
     add-k
     loop-less

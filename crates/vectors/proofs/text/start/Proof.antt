@@ -1,8 +1,8 @@
 use mathlib.Core.Path.{sym}
 use lib.Seq.{length-take-le}
 use borrow.Author.Needs.{needs}
-use Rattle.vectors.proofs.start.Statement.{statement}
-use Rattle.vectors.proofs.start.Tie as tie
+use Rattle.vectors.proofs.text.start.Statement.{statement}
+use Rattle.vectors.proofs.text.start.Tie as tie
 
 least-requires : tie.Need-least-requires
 least-requires c κs = search needs
