@@ -13,11 +13,7 @@ use Rattle.lines.specs.declared.Act.the-variants.{Keep, Open, Order, Bad}
 use Rattle.lines.specs.Reading.{act, live, cutOff}
 use Rattle.listing.specs.declared.Run.{Run}
 use Rattle.listing.specs.declared.Fed.{Fed}
-use Rattle.listing.specs.Text.{printed, rowOf, bad}
-
--- room for the longest line
-abbrev pub longest : ℕ
-longest = 256
+use Rattle.text.specs.Text.{longest, printed, rowOf, bad}
 
 -- the run after what it does with a byte; the count of lines has 64 bits. The check of a run's table is paid by its first line, which makes the table
 unfoldable pub acted : Run → Act → Run

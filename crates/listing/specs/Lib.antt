@@ -1,6 +1,5 @@
--- What a reader believes of the listing: what is printed, and the listing of a whole input (its lines are defined in the crate `lines`). Then how a run
--- takes an input in pieces, and the statements that tie the two together.
-pub mod Text
+-- What a reader believes of the listing of a whole input (its lines are defined in the crate `lines`, what is printed in `text`). Then how a run takes an
+-- input in pieces, and the statements that tie the two together.
 pub mod Listing
 pub mod Feed
 pub mod Chain

@@ -7,7 +7,7 @@ use Rattle.model.specs.declared.Outcome.{Outcome}
 use Rattle.model.specs.Table.{freshTable}
 use Rattle.model.specs.Event.{event}
 use Rattle.lines.specs.Line.{letter, number, eventOf, opens, orders, lines}
-use Rattle.listing.specs.Text.{printed, rowOf, bad}
+use Rattle.text.specs.Text.{printed, rowOf, bad}
 
 -- what the event of a line answers on a table
 abbrev pub answered : Table → List ℕ → Outcome

@@ -2,23 +2,19 @@
 -- means; the line below it names its proof.
 use mathlib.Core.Path.{_≡_, sym, _∙_}
 use mathlib.Core.Bool.{true, false}
-use mathlib.Core.List.{List, [], _∷_, _++_}
+use mathlib.Core.List.{List, _∷_, _++_}
 use Prim.Native.Nat.{ℕ, _+_, _≤_, _<_, _^_}
 use lib.ListN.{length}
 use lib.Seq.{sets}
 use Rattle.model.specs.declared.Table.{Table}
-use Rattle.model.specs.Good.{good}
-use Rattle.model.specs.Event.{numberOf, event}
-use Rattle.model.specs.Laws.Paid.{no-port}
 use Rattle.listing.specs.declared.Run.{Run}
 use Rattle.listing.specs.declared.Fed.{Fed}
-use Rattle.lines.specs.Line.{space, orders, letter, number}
-use Rattle.listing.specs.Text.{decimal, readOn, dash, cell, pointText, stateText, printed, rowOf, bad}
+use Rattle.lines.specs.Line.{orders, letter, number}
+use Rattle.text.specs.Text.{longest, printed, rowOf, bad}
 use Rattle.listing.specs.Listing.{answered, listed, listing}
 use Rattle.lines.specs.Reading.{live}
-use Rattle.listing.specs.Feed.{longest, feeding, fedOf, starting, ended}
+use Rattle.listing.specs.Feed.{feeding, fedOf, starting, ended}
 use Rattle.listing.specs.Chain.{Prints}
-use Rattle.listing.specs.Laws.Value.{read-back}
 use Rattle.listing.specs.Laws.Taking.{takes}
 use Rattle.listing.specs.Laws.End.{from-start}
 
@@ -41,16 +37,6 @@ pub line-by-line : (t : Table) (n : ℕ) (l : List ℕ) (ls : List (List ℕ)) �
     → listed t n (l ∷ ls) ≡ printed (rowOf n (letter l) (number l) (answered t l)) ++ listed (answered t l .table) (n + 1) ls
 unfolding listed
 line-by-line t n l ls h = rw h
-
--- 'Point after (`-` if no such port)': a port at or above D is answered 2 and `-`, whatever the event
-pub absent-port : (t : Table) (k e point active : ℕ) → good t ≡ true → t .shared .d ≤ k
-    → stateText (numberOf (event t k e .answer)) point active ≡ cell 2 space ++ (dash ∷ space ∷ []) ++ cell active space
-unfolding stateText pointText
-absent-port t k e point active g h = rw (no-port t k e g h)
-
--- 'All numbers in decimal': the digits of a number stand for it
-pub in-decimal : (n : ℕ) → readOn 0 (decimal n) ≡ n
-in-decimal = read-back
 
 -- Two results that meet a promise are equal, and so are two contents of the buffer
 pub feed-one : (r : Run) (input out : List ℕ) (f g : Fed) (x y : List ℕ)

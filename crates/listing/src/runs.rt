@@ -1,8 +1,6 @@
 // A run over an input that comes in pieces.
 use crate::Fed;
-use crate::Row;
 use crate::Run;
-use crate::text;
 use lines::Act;
 use lines::Part;
 use lines::Stage;
@@ -12,16 +10,15 @@ use model::Answer;
 use model::ROOM;
 use model::Shared;
 use model::Table;
+use text::LONGEST;
+use text::Row;
 ghost use mathlib.Core.Path.{_≡_};
 ghost use Prim.Native.Nat.{_≤_};
 ghost use lib.ListN.{length};
 ghost use lib.Seq.{sets};
 ghost use Rattle.model.specs.Table.{portAt};
-ghost use Rattle.listing.specs.Text as Text;
+ghost use Rattle.text.specs.Text as Text;
 ghost use Rattle.listing.specs.Feed as Feed;
-
-// Room for the longest line.
-pub const LONGEST: usize = 256;
 
 // A run before its first byte.
 pub fn start() -> Run
@@ -151,7 +148,7 @@ pub fn feed(run: Run, input: &[u8], out: &mut [u8]) -> Fed
 pub fn finish(run: Run, out: &mut [u8; LONGEST]) -> usize
     ensures { λ r. ⌜ r ≡ length (Feed.ended run) ⌝ }
     ensures { λ r. ⌜ now (out .exit) ≡ sets (now (out .entry)) 0 (Feed.ended run) ⌝ }
-    ensures { λ r. ⌜ r ≤ Feed.longest ⌝ }
+    ensures { λ r. ⌜ r ≤ Text.longest ⌝ }
 {
     let part = run.part;
     let stage = run.stage;

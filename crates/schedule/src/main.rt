@@ -6,7 +6,7 @@ use libc::STDOUT_FILENO;
 use lines::reading;
 use listing::Run;
 use listing::runs;
-use listing::runs::LONGEST;
+use text::LONGEST;
 ghost use Prim.Native.Nat.{_≤_};
 ghost use lib.ListN.{length};
 

@@ -12,7 +12,7 @@ use Rattle.lines.specs.declared.Stage.{Stage}
 use Rattle.lines.specs.declared.Stage.the-variants.{Opening, Running, Over}
 use Rattle.listing.specs.declared.Run.{Run}
 use Rattle.lines.specs.Line.{nought, digit, leading, numeral, wellFormed, before, lines}
-use Rattle.listing.specs.Text.{bad}
+use Rattle.text.specs.Text.{bad}
 use Rattle.listing.specs.Listing.{listed, opened, listing}
 use Rattle.lines.specs.Reading.{begun, cutOff, live}
 use Rattle.listing.specs.Feed.{feeding, ended, starting}

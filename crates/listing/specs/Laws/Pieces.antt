@@ -27,10 +27,10 @@ use Rattle.lines.specs.declared.Act.{Act}
 use Rattle.lines.specs.declared.Act.the-variants.{Keep, Open, Order, Bad}
 use Rattle.listing.specs.declared.Run.{Run}
 use Rattle.lines.specs.Line.{newline, wellFormed, letter, number, eventOf, isOpening, isEvent, opens, orders, lines}
-use Rattle.listing.specs.Text.{printed, rowOf, bad}
+use Rattle.text.specs.Text.{longest, printed, rowOf, bad}
 use Rattle.listing.specs.Listing.{listed, opened}
 use Rattle.lines.specs.Reading.{read, readAct, lineAct, act, live}
-use Rattle.listing.specs.Feed.{longest, acted, actText, Given, nothing, after, feeding}
+use Rattle.listing.specs.Feed.{acted, actText, Given, nothing, after, feeding}
 use Rattle.lines.specs.Laws.Lines.{restOfLine, first-line}
 use Rattle.lines.specs.Parts.{bytesOf, Fair, Told}
 use Rattle.lines.specs.Laws.Parts.{fair-clear, told}

@@ -14,8 +14,9 @@ use Rattle.listing.specs.declared.Run.{Run}
 use Rattle.lines.specs.declared.Act.{Act}
 use Rattle.listing.specs.declared.Fed.{Fed}
 use Rattle.lines.specs.Reading.{act, live}
-use Rattle.listing.specs.Feed.{longest, acted, actText, nothing, after, feeding, fedOf}
-use Rattle.listing.specs.Laws.Put.{Put, sets-append}
+use Rattle.listing.specs.Feed.{acted, actText, nothing, after, feeding, fedOf}
+use Rattle.text.specs.Text.{longest}
+use Rattle.text.specs.Laws.Put.{Put, sets-append}
 
 -- nothing is put
 pub put-nothing : {out : List ℕ} {at : ℕ} → Put out at [] longest at out

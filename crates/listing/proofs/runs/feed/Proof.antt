@@ -11,8 +11,10 @@ use Rattle.listing.specs.declared.Run.{Run}
 use Rattle.lines.specs.declared.Act.{Act}
 use Rattle.lines.specs.declared.Act.the-variants.{Keep, Open, Order, Bad}
 use Rattle.lines.specs.Reading.{live}
-use Rattle.listing.specs.Feed.{longest, acted, actText}
-use Rattle.listing.specs.Laws.Put.{Put, limit}
+use Rattle.listing.specs.Feed.{acted, actText}
+use Rattle.text.specs.Text.{longest}
+use Rattle.text.specs.Laws.Put.{Put, limit}
+use Rattle.text.specs.Laws.Room.{whole-line}
 use Rattle.listing.specs.Laws.Taking.{Taking, put-nothing, going, begins, turns, ends}
 use Rattle.listing.proofs.runs.feed.Statement.{statement}
 use Rattle.listing.proofs.runs.feed.Tie as tie
@@ -36,11 +38,8 @@ module _ (c : tie.Then1 Inv-loop μ-loop) where
   fits-input : length (c .before .before .before .before .before .before .args .input .now) * 1 < limit
   fits-input = c .before .before .before .before .before .before .good .1 .0 .1
 
-  fits-out : length (c .before .before .before .before .before .before .args .out .now) * 1 < limit
-  fits-out = c .before .before .before .before .before .before .good .1 .1 .0 .1
-
-  room-left : c .before .before .loop .written + longest < limit
-  room-left = omega (arith, tests .1, fits-out, c .before .before .loop .inv .inside, c .before .before .loop .inv .long)
+  room-left : c .before .before .loop .written + longest ≤ length (c .before .before .loop .out)
+  room-left = omega (arith, tests .1, c .before .before .loop .inv .inside, c .before .before .loop .inv .long)
 
 -- the run before a turn
 abbrev run-at : tie.After-act Inv-loop μ-loop → Run
@@ -119,7 +118,7 @@ row-requires : tie.Need-row-requires Inv-loop μ-loop
 row-requires c κs = search needs
 
 put-row-requires : tie.Need-put-row-requires Inv-loop μ-loop
-put-row-requires c κs = omega (arith, room-left (c .before .before .before .before .before .before .before .before .before .before))
+put-row-requires c κs = search needs
 
 wrapping-add-u64-requires : tie.Need-wrapping-add-u64-requires Inv-loop μ-loop
 wrapping-add-u64-requires c κs = search needs
@@ -132,20 +131,20 @@ unfolding acted actText
 loop-again-3 c =
     turned (c .before .before .before .before .before .before .before .before .before .before .before .before) _ _ _ (Order _ _ _) (c .before .before .before .before .before .before .before .before .before .before .act4 .given .1)
     (rw (c .before .before .before .before .before .before .before .before .paid .ensures, c .wrapping-add-u64 .ensures))
-    (rw (← (c .before .before .before .before .before .before .before .before .paid .ensures), ← (c .before .before .before .before .before .before .point-at .ensures), ← (c .before .before .before .before .before .row .ensures)) (c .before .before .before .put-row .ensures))
+    (rw (← (c .before .before .before .before .before .before .before .before .paid .ensures), ← (c .before .before .before .before .before .before .point-at .ensures), ← (c .before .before .before .before .before .row .ensures)) (whole-line (room-left (c .before .before .before .before .before .before .before .before .before .before .before .before .before .before)) (c .before .before .before .put-row .ensures)))
 
 enum-told : tie.Need-enum-told Inv-loop μ-loop
 enum-told c = search needs
 
 put-bad-requires : tie.Need-put-bad-requires Inv-loop μ-loop
-put-bad-requires c κs = omega (arith, room-left (c .before .before .before .before .before))
+put-bad-requires c κs = search needs
 
 loop-less-4 : tie.Need-loop-less-4 Inv-loop μ-loop
 loop-less-4 c = omega (arith, tests (c .before .before .before .before .before .before .before .before) .0)
 
 loop-again-4 : tie.Need-loop-again-4 Inv-loop μ-loop
 unfolding acted actText
-loop-again-4 c = turned (c .before .before .before .before .before .before) _ _ _ Bad (c .before .before .before .before .enum-told .given .1) refl (c .before .before .put-bad .ensures)
+loop-again-4 c = turned (c .before .before .before .before .before .before) _ _ _ Bad (c .before .before .before .before .enum-told .given .1) refl (whole-line (room-left (c .before .before .before .before .before .before .before .before)) (c .before .before .put-bad .ensures))
 
 same-length : tie.Need-same-length Inv-loop μ-loop
 same-length c = c .before .before .loop .inv .long

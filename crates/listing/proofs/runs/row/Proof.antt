@@ -1,4 +1,4 @@
-use Rattle.listing.specs.Text.{rowIn}
+use Rattle.text.specs.Text.{rowIn}
 use borrow.Author.Needs.{needs}
 use Rattle.listing.proofs.runs.row.Statement.{statement}
 use Rattle.listing.proofs.runs.row.Tie as tie

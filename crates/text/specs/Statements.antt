@@ -1,0 +1,33 @@
+-- What is proved of the lines that are printed, for a reader who knows the definitions and no proof.
+use mathlib.Core.Path.{_≡_, sym, _∙_}
+use mathlib.Core.Bool.{true}
+use mathlib.Core.List.{List, [], _∷_, _++_}
+use Prim.Native.Nat.{ℕ, _+_, _≤_}
+use lib.ListN.{length}
+use lib.Seq.{sets}
+use Rattle.model.specs.declared.Table.{Table}
+use Rattle.model.specs.Good.{good}
+use Rattle.model.specs.Event.{numberOf, event}
+use Rattle.model.specs.Laws.Paid.{no-port}
+use Rattle.lines.specs.Line.{space}
+use Rattle.text.specs.Text.{decimal, readOn, dash, cell, pointText, stateText, fitting}
+use Rattle.text.specs.Laws.Value.{read-back}
+
+-- 'All numbers in decimal': the digits of a number stand for it
+pub in-decimal : (n : ℕ) → readOn 0 (decimal n) ≡ n
+in-decimal = read-back
+
+-- 'Point after (`-` if no such port)': a port at or above D is answered 2 and `-`, whatever the event
+pub absent-port : (t : Table) (k e point active : ℕ) → good t ≡ true → t .shared .d ≤ k
+    → stateText (numberOf (event t k e .answer)) point active ≡ cell 2 space ++ (dash ∷ space ∷ []) ++ cell active space
+unfolding stateText pointText
+absent-port t k e point active g h = rw (no-port t k e g h)
+
+-- Two results that meet a promise are equal, and so are two contents of the buffer: whatever the line that is put
+pub put-one : (out line : List ℕ) (at m n : ℕ) (x y : List ℕ)
+    → m ≡ at + length (fitting (length out) at line)
+    → x ≡ sets out at (fitting (length out) at line)
+    → n ≡ at + length (fitting (length out) at line)
+    → y ≡ sets out at (fitting (length out) at line)
+    → (m ≡ n) × (x ≡ y)
+put-one out line at m n x y p q u v = (p ∙ sym u, q ∙ sym v)

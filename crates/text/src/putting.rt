@@ -1,0 +1,133 @@
+// What is printed, put into a lent buffer from a place on; each function gives the place after it. Bytes past the buffer's end are dropped.
+use crate::Row;
+ghost use mathlib.Core.Path.{_≡_};
+ghost use Prim.Native.Nat.{_+_, _%_, _<_};
+ghost use mathlib.Core.List.{_∷_, []};
+ghost use Rattle.text.specs.Text as Text;
+ghost use Rattle.text.specs.Laws.Put.{Put, limit};
+
+const NEWLINE: u8 = 10;
+
+const SPACE: u8 = 32;
+
+const DASH: u8 = 45;
+
+const DOT: u8 = 46;
+
+fn put(out: &mut [u8], at: usize, b: u8) -> usize
+    requires { ⌜ at < limit ⌝ }
+    ensures { λ r. ⌜ Put (now (out .entry)) at (b ∷ []) 1 r (now (out .exit)) ⌝ }
+{
+    if out.len() <= at {
+        return at + 1;
+    }
+    out[at] = b;
+    at + 1
+}
+
+// The last digit of n.
+fn last_digit(n: u64) -> u8
+    ensures { λ r. ⌜ r ≡ 48 + n % 10 ⌝ }
+{
+    48 + (n % 10) as u8
+}
+
+fn put_digits(out: &mut [u8], at: usize, n: u64) -> usize
+    requires { ⌜ at + 20 < limit ⌝ }
+    ensures { λ r. ⌜ Put (now (out .entry)) at (Text.decimal n) 20 r (now (out .exit)) ⌝ }
+{
+    if n < 10 {
+        return put(out, at, last_digit(n));
+    }
+    let next = put_digits(out, at, n / 10);
+    put(out, next, last_digit(n))
+}
+
+// The same, with the short way for one digit where it is called.
+fn put_decimal(out: &mut [u8], at: usize, n: u64) -> usize
+    requires { ⌜ at + 20 < limit ⌝ }
+    ensures { λ r. ⌜ Put (now (out .entry)) at (Text.decimal n) 20 r (now (out .exit)) ⌝ }
+{
+    if n < 10 {
+        return put(out, at, last_digit(n));
+    }
+    put_digits(out, at, n)
+}
+
+fn put_cell(out: &mut [u8], at: usize, n: u64, after: u8) -> usize
+    requires { ⌜ at + 21 < limit ⌝ }
+    ensures { λ r. ⌜ Put (now (out .entry)) at (Text.cell n after) 21 r (now (out .exit)) ⌝ }
+{
+    let next = put_decimal(out, at, n);
+    put(out, next, after)
+}
+
+fn put_order(out: &mut [u8], at: usize, number: u64, letter: u8, port: u64) -> usize
+    requires { ⌜ at + 44 < limit ⌝ }
+    ensures { λ r. ⌜ Put (now (out .entry)) at (Text.orderText number letter port) 44 r (now (out .exit)) ⌝ }
+{
+    let a = put_cell(out, at, number, SPACE);
+    let b = put(out, a, letter);
+    let c = put(out, b, SPACE);
+    put_cell(out, c, port, SPACE)
+}
+
+fn put_point(out: &mut [u8], at: usize, answer: u64, point: u64) -> usize
+    requires { ⌜ at + 21 < limit ⌝ }
+    ensures { λ r. ⌜ Put (now (out .entry)) at (Text.pointText answer point) 21 r (now (out .exit)) ⌝ }
+{
+    if answer == 2 {
+        let a = put(out, at, DASH);
+        return put(out, a, SPACE);
+    }
+    put_cell(out, at, point, SPACE)
+}
+
+fn put_state(out: &mut [u8], at: usize, answer: u64, point: u64, active: u64) -> usize
+    requires { ⌜ at + 63 < limit ⌝ }
+    ensures { λ r. ⌜ Put (now (out .entry)) at (Text.stateText answer point active) 63 r (now (out .exit)) ⌝ }
+{
+    let a = put_cell(out, at, answer, SPACE);
+    let b = put_point(out, a, answer, point);
+    put_cell(out, b, active, SPACE)
+}
+
+fn put_word(out: &mut [u8], at: usize, taken: u64, owner: u64, spin: u64) -> usize
+    requires { ⌜ at + 63 < limit ⌝ }
+    ensures { λ r. ⌜ Put (now (out .entry)) at (Text.wordText taken owner spin) 63 r (now (out .exit)) ⌝ }
+{
+    let a = put_cell(out, at, taken, DOT);
+    let b = put_cell(out, a, owner, DOT);
+    put_cell(out, b, spin, SPACE)
+}
+
+fn put_costs(out: &mut [u8], at: usize, cached: u64, distributed: u64) -> usize
+    requires { ⌜ at + 42 < limit ⌝ }
+    ensures { λ r. ⌜ Put (now (out .entry)) at (Text.costText cached distributed) 42 r (now (out .exit)) ⌝ }
+{
+    let a = put_cell(out, at, cached, SPACE);
+    put_cell(out, a, distributed, NEWLINE)
+}
+
+// The line for an event.
+pub fn event_line(out: &mut [u8], at: usize, row: Row) -> usize
+    requires { ⌜ at + Text.longest < limit ⌝ }
+    ensures { λ r. ⌜ Put (now (out .entry)) at (Text.printed row) Text.longest r (now (out .exit)) ⌝ }
+{
+    let a = put_order(out, at, row.number, row.letter, row.port);
+    let b = put_state(out, a, row.answer, row.point, row.active);
+    let c = put_word(out, b, row.taken, row.owner, row.spin);
+    put_costs(out, c, row.cached, row.distributed)
+}
+
+// `BAD` and the number of a malformed line.
+pub fn bad_line(out: &mut [u8], at: usize, number: u64) -> usize
+    requires { ⌜ at + Text.longest < limit ⌝ }
+    ensures { λ r. ⌜ Put (now (out .entry)) at (Text.bad number) Text.longest r (now (out .exit)) ⌝ }
+{
+    let a = put(out, at, 66);
+    let b = put(out, a, 65);
+    let c = put(out, b, 68);
+    let d = put(out, c, SPACE);
+    put_cell(out, d, number, NEWLINE)
+}
