@@ -6,6 +6,7 @@ use lib.ListN.{getD}
 use Rattle.model.specs.declared.Port.{Port}
 use Rattle.model.specs.declared.Copies.{Copies}
 use Rattle.model.specs.declared.Shared.{Shared}
+use Rattle.model.specs.Table.{word, work, port, copies, shared}
 use Rattle.image.specs.Bytes.{sum}
 
 -- shared: ACTIVE, taken, owner, spin
@@ -51,35 +52,15 @@ copiesValues c = c .status ∷ c .go ∷ c .spin ∷ []
 -- the same fields, from their values
 unfoldable pub sharedOf : ℕ → List ℕ → List ℕ → Shared
 sharedOf d vs cs =
-    record {
-      active = getD vs 0 0;
-      activecopies = getD cs 0 0;
-      wordcopies = getD cs 1 0;
-      d = d;
-      word = record { spin = getD vs 3 0; owner = getD vs 2 0; taken = getD vs 1 0 };
-    }
+    shared (getD vs 0 0) (getD cs 0 0) (getD cs 1 0) d (word (getD vs 1 0) (getD vs 2 0) (getD vs 3 0))
 
 unfoldable pub portOf : List ℕ → Port
 portOf vs =
-    record {
-      work =
-          record {
-            own = getD vs 6 0;
-            seenspin = getD vs 8 0;
-            candidatespin = getD vs 10 0;
-            seenowner = getD vs 7 0;
-            candidate = getD vs 9 0;
-          };
-      made = getD vs 4 0;
-      go = getD vs 5 0;
-      point = getD vs 0 0;
-      status = getD vs 1 0;
-      flag = getD vs 2 0;
-      value = getD vs 3 0;
-    }
+    port (getD vs 0 0) (getD vs 1 0) (getD vs 2 0) (getD vs 3 0) (getD vs 4 0) (getD vs 5 0)
+    (work (getD vs 6 0) (getD vs 7 0) (getD vs 8 0) (getD vs 9 0) (getD vs 10 0))
 
 unfoldable pub copiesOf : List ℕ → Copies
-copiesOf vs = record { status = getD vs 0 0; go = getD vs 1 0; spin = getD vs 2 0 }
+copiesOf vs = copies (getD vs 0 0) (getD vs 1 0) (getD vs 2 0)
 
 -- byte 0, the version
 unfoldable pub version : ℕ

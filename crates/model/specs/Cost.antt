@@ -13,7 +13,7 @@ use Rattle.model.specs.declared.Cell.the-variants.{Nothing, Status, Go, 
 use Rattle.model.specs.declared.Kind.{Kind}
 use Rattle.model.specs.declared.Kind.the-variants.{Read, Write, Add, Swap}
 use Rattle.model.specs.declared.Kind.the-variants as Kinds
-use Rattle.model.specs.Table.{latest}
+use Rattle.model.specs.Table.{copies, shared, latest}
 use Rattle.model.specs.Mask.{stands, joined, alone}
 use Rattle.model.specs.Points.{Point, none, p0, p1, p2, p3, p4, p5, p6, p8, p9, p10, p11, p12, p13, p14, p15, p16, p17, p18, p19, x0, x1, x2, x3, x4, x5}
 
@@ -118,22 +118,20 @@ putShared Nothing m s = s
 putShared Status m s = s
 putShared Go m s = s
 putShared Spin m s = s
-putShared Active m s =
-    record { active = s .active; activecopies = m; wordcopies = s .wordcopies; d = s .d; word = s .word }
-putShared Lock m s =
-    record { active = s .active; activecopies = s .activecopies; wordcopies = m; d = s .d; word = s .word }
+putShared Active m s = shared (s .active) m (s .wordcopies) (s .d) (s .word)
+putShared Lock m s = shared (s .active) (s .activecopies) m (s .d) (s .word)
 putShared CandidateGo m s = s
 putShared SeenSpin m s = s
 
 abbrev pub putCopies : Cell → ℕ → Copies → Copies
 putCopies Nothing m c = c
-putCopies Status m c = record { status = m; go = c .go; spin = c .spin }
-putCopies Go m c = record { status = c .status; go = m; spin = c .spin }
-putCopies Spin m c = record { status = c .status; go = c .go; spin = m }
+putCopies Status m c = copies m (c .go) (c .spin)
+putCopies Go m c = copies (c .status) m (c .spin)
+putCopies Spin m c = copies (c .status) (c .go) m
 putCopies Active m c = c
 putCopies Lock m c = c
-putCopies CandidateGo m c = record { status = c .status; go = m; spin = c .spin }
-putCopies SeenSpin m c = record { status = c .status; go = c .go; spin = m }
+putCopies CandidateGo m c = copies (c .status) m (c .spin)
+putCopies SeenSpin m c = copies (c .status) (c .go) m
 
 -- what a touch by port k costs, and the copy sets after it; q is the port that the word belongs to, and c its copy sets.
 -- Touching a spin that isn't the latest costs 1 and changes no copy set.

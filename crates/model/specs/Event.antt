@@ -16,7 +16,7 @@ use Rattle.model.specs.declared.Outcome.{Outcome}
 use Rattle.model.specs.declared.Made.{Made}
 use Rattle.model.specs.declared.Answer.{Answer}
 use Rattle.model.specs.declared.Answer.the-variants.{Done, BadTable, NoSuchPort, NoSuchEvent, Busy, Worn, NotInside, Idle, Inside, BadSize, ShortRoom, BadImage}
-use Rattle.model.specs.Table.{most, noWork, portIn, portAt, copiesAt, putPort, freshTable}
+use Rattle.model.specs.Table.{most, copies, shared, noWork, portIn, portAt, copiesAt, putPort, freshTable}
 use Rattle.model.specs.Points.{pointOf, settled}
 use Rattle.model.specs.Good.{sizeGood, good}
 use Rattle.model.specs.Step.{at, withFlag, withValue, withWork, step}
@@ -120,11 +120,10 @@ moveOf t k = step (pointOf (portAt t k .point)) (viewOf t k)
 
 -- what all share with the move's ACTIVE and word; the copies of a port's words, with none of a spin that is new
 abbrev pub sharedAfter : Move → Shared → Shared
-sharedAfter m s =
-    record { active = m .active; activecopies = s .activecopies; wordcopies = s .wordcopies; d = s .d; word = m .word }
+sharedAfter m s = shared (m .active) (s .activecopies) (s .wordcopies) (s .d) (m .word)
 
 abbrev pub copiesAfter : Move → Copies → Copies
-copiesAfter m c = record { status = c .status; go = c .go; spin = cond (m .makes) 0 (c .spin) }
+copiesAfter m c = copies (c .status) (c .go) (cond (m .makes) 0 (c .spin))
 
 unfoldable pub chargeOf : Table → ℕ → Charge
 chargeOf t k =

@@ -4,8 +4,8 @@ use mathlib.Core.List.{List, [], _∷_, _++_}
 use Prim.Native.Nat.{ℕ, _+_}
 use lib.Dec.{eqb, leb}
 use lib.ListN.{getD, replicate}
-use Rattle.model.specs.declared.Work.{Work}
 use Rattle.model.specs.declared.Port.{Port}
+use Rattle.model.specs.Table.{work, port}
 
 -- the tens of a promotion's points: x is 2, 3 or 4
 pub data Tens : Type 0 where
@@ -83,19 +83,10 @@ kept b x = cond b x 0
 -- a port whose working values are 0 wherever they have no place at its point
 unfoldable pub settled : Port → Port
 settled p =
-    record {
-      work =
-          record {
-            own = kept (ownPlace (p .point)) (p .work .own);
-            seenspin = kept (seenPlace (p .point)) (p .work .seenspin);
-            candidatespin = kept (candidateSpinPlace (p .point)) (p .work .candidatespin);
-            seenowner = kept (seenPlace (p .point)) (p .work .seenowner);
-            candidate = kept (candidatePlace (p .point)) (p .work .candidate);
-          };
-      made = p .made;
-      go = p .go;
-      point = p .point;
-      status = p .status;
-      flag = p .flag;
-      value = p .value;
-    }
+    port (p .point) (p .status) (p .flag) (p .value) (p .made) (p .go)
+    (work
+    (kept (ownPlace (p .point)) (p .work .own))
+    (kept (seenPlace (p .point)) (p .work .seenowner))
+    (kept (seenPlace (p .point)) (p .work .seenspin))
+    (kept (candidatePlace (p .point)) (p .work .candidate))
+    (kept (candidateSpinPlace (p .point)) (p .work .candidatespin)))

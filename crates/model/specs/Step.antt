@@ -7,88 +7,45 @@ use Rattle.model.specs.declared.Work.{Work}
 use Rattle.model.specs.declared.Port.{Port}
 use Rattle.model.specs.declared.View.{View}
 use Rattle.model.specs.declared.Move.{Move}
-use Rattle.model.specs.Table.{TRY, CS, EXIT, ABORT, word, readSpin}
+use Rattle.model.specs.Table.{TRY, CS, EXIT, ABORT, word, work, port, readSpin}
 use Rattle.model.specs.Mask.{stands, added}
 use Rattle.model.specs.Ring.{next}
 use Rattle.model.specs.Points.{Tens, two, three, four, Point, none, p0, p1, p2, p3, p4, p5, p6, p8, p9, p10, p11, p12, p13, p14, p15, p16, p17, p18, p19, x0, x1, x2, x3, x4, x5, tens, back}
 
 -- a port with one field changed
 abbrev pub at : ℕ → Port → Port
-at n p =
-    record { work = p .work; made = p .made; go = p .go; point = n; status = p .status; flag = p .flag; value = p .value }
+at n p = port n (p .status) (p .flag) (p .value) (p .made) (p .go) (p .work)
 
 abbrev pub withStatus : ℕ → Port → Port
-withStatus n p =
-    record { work = p .work; made = p .made; go = p .go; point = p .point; status = n; flag = p .flag; value = p .value }
+withStatus n p = port (p .point) n (p .flag) (p .value) (p .made) (p .go) (p .work)
 
 abbrev pub withFlag : ℕ → Port → Port
-withFlag n p =
-    record { work = p .work; made = p .made; go = p .go; point = p .point; status = p .status; flag = n; value = p .value }
-
-abbrev pub withGo : ℕ → Port → Port
-withGo n p =
-    record { work = p .work; made = p .made; go = n; point = p .point; status = p .status; flag = p .flag; value = p .value }
+withFlag n p = port (p .point) (p .status) n (p .value) (p .made) (p .go) (p .work)
 
 abbrev pub withValue : ℕ → Port → Port
-withValue n p =
-    record { work = p .work; made = p .made; go = p .go; point = p .point; status = p .status; flag = p .flag; value = n }
+withValue n p = port (p .point) (p .status) (p .flag) n (p .made) (p .go) (p .work)
 
 abbrev pub withMade : ℕ → Port → Port
-withMade n p =
-    record { work = p .work; made = n; go = p .go; point = p .point; status = p .status; flag = p .flag; value = p .value }
+withMade n p = port (p .point) (p .status) (p .flag) (p .value) n (p .go) (p .work)
+
+abbrev pub withGo : ℕ → Port → Port
+withGo n p = port (p .point) (p .status) (p .flag) (p .value) (p .made) n (p .work)
 
 abbrev pub withWork : Work → Port → Port
-withWork w p =
-    record { work = w; made = p .made; go = p .go; point = p .point; status = p .status; flag = p .flag; value = p .value }
+withWork w p = port (p .point) (p .status) (p .flag) (p .value) (p .made) (p .go) w
 
+-- one working value changed; the word as seen
 abbrev pub withOwn : ℕ → Port → Port
-withOwn n p =
-    withWork
-    (record {
-      own = n;
-      seenspin = p .work .seenspin;
-      candidatespin = p .work .candidatespin;
-      seenowner = p .work .seenowner;
-      candidate = p .work .candidate;
-    })
-    p
+withOwn n p = withWork (work n (p .work .seenowner) (p .work .seenspin) (p .work .candidate) (p .work .candidatespin)) p
 
--- the word as seen
 abbrev pub withSeen : Word → Port → Port
-withSeen w p =
-    withWork
-    (record {
-      own = p .work .own;
-      seenspin = w .spin;
-      candidatespin = p .work .candidatespin;
-      seenowner = w .owner;
-      candidate = p .work .candidate;
-    })
-    p
+withSeen w p = withWork (work (p .work .own) (w .owner) (w .spin) (p .work .candidate) (p .work .candidatespin)) p
 
 abbrev pub withCandidate : ℕ → Port → Port
-withCandidate n p =
-    withWork
-    (record {
-      own = p .work .own;
-      seenspin = p .work .seenspin;
-      candidatespin = p .work .candidatespin;
-      seenowner = p .work .seenowner;
-      candidate = n;
-    })
-    p
+withCandidate n p = withWork (work (p .work .own) (p .work .seenowner) (p .work .seenspin) n (p .work .candidatespin)) p
 
 abbrev pub withCandidateSpin : ℕ → Port → Port
-withCandidateSpin n p =
-    withWork
-    (record {
-      own = p .work .own;
-      seenspin = p .work .seenspin;
-      candidatespin = n;
-      seenowner = p .work .seenowner;
-      candidate = p .work .candidate;
-    })
-    p
+withCandidateSpin n p = withWork (work (p .work .own) (p .work .seenowner) (p .work .seenspin) (p .work .candidate) n) p
 
 -- what a step changes: its own record alone; and ACTIVE; and the word
 abbrev pub changed : View → Port → Move

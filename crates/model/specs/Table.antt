@@ -37,15 +37,31 @@ ABORT = 3
 abbrev pub word : ℕ → ℕ → ℕ → Word
 word taken owner spin = record { spin = spin; owner = owner; taken = taken }
 
+-- the records from their fields, in the order of document 01's image: own spin, seen owner, seen spin, candidate, candidate spin; point, STATUS, flag,
+-- latest value, made, GO, working values; the copies of STATUS, GO, latest spin; ACTIVE, its copies, the word's, D, the word
+abbrev pub work : ℕ → ℕ → ℕ → ℕ → ℕ → Work
+work own owner spin candidate cspin =
+    record { own = own; seenspin = spin; candidatespin = cspin; seenowner = owner; candidate = candidate }
+
+abbrev pub port : ℕ → ℕ → ℕ → ℕ → ℕ → ℕ → Work → Port
+port point status flag value made go w =
+    record { work = w; made = made; go = go; point = point; status = status; flag = flag; value = value }
+
+abbrev pub copies : ℕ → ℕ → ℕ → Copies
+copies status go spin = record { status = status; go = go; spin = spin }
+
+abbrev pub shared : ℕ → ℕ → ℕ → ℕ → Word → Shared
+shared active ac wc d w = record { active = active; activecopies = ac; wordcopies = wc; d = d; word = w }
+
 -- all working values 0; a port that is all 0; no copies of a port's words
 abbrev pub noWork : Work
-noWork = record { own = 0; seenspin = 0; candidatespin = 0; seenowner = 0; candidate = 0 }
+noWork = work 0 0 0 0 0
 
 abbrev pub noPort : Port
-noPort = record { work = noWork; made = 0; go = 0; point = 0; status = TRY; flag = 0; value = 0 }
+noPort = port 0 TRY 0 0 0 0 noWork
 
 abbrev pub noCopies : Copies
-noCopies = record { status = 0; go = 0; spin = 0 }
+noCopies = copies 0 0 0
 
 -- what stands at port k, and the copies of its words
 abbrev pub portIn : List Port → ℕ → Port
@@ -77,8 +93,4 @@ pub record Sized (t : Table) : Type 0 where
 -- the fresh table of d ports: each field's first value
 unfoldable pub freshTable : ℕ → Table
 freshTable d =
-    record {
-      ports = replicate room noPort;
-      copies = replicate room noCopies;
-      shared = record { active = 0; activecopies = 0; wordcopies = 0; d = d; word = word 0 0 0 };
-    }
+    record { ports = replicate room noPort; copies = replicate room noCopies; shared = shared 0 0 0 d (word 0 0 0) }
