@@ -7,7 +7,7 @@ use Rattle.model.specs.declared.Made.{Made}
 use Rattle.model.specs.declared.Answer.{Answer}
 use Rattle.model.specs.Event.{numberOf, fresh, firstOf, refusals, ordered}
 use Rattle.model.specs.Paid.{paidAnswer}
-use Rattle.points.specs.Statements.{one}
+use Rattle.model.specs.Statements.{one}
 
 pub number-one : (a : Answer) (r s : ℕ) → r ≡ numberOf a → s ≡ numberOf a → r ≡ s
 number-one a r s = one

@@ -8,7 +8,6 @@ use model::Shared;
 use model::Table;
 use model::Word;
 use model::Work;
-use points::masks;
 use rules::good;
 ghost use mathlib.Core.Path.{_≡_};
 ghost use Rattle.model.specs.Table.{noWork, freshTable};

@@ -1,8 +1,10 @@
 -- A step on what it can see: the shared part, its own port, and the port that it touches; and the table put together again.
-use mathlib.Core.Path.{_≡_, refl}
+use mathlib.Core.Path.{_≡_, refl, _∙_}
 use mathlib.Core.Bool.{Bool, true, false, cond, not, _&&_}
 use mathlib.Core.List.{List}
-use Prim.Native.Nat.{ℕ, _≤_, _<_, _^_}
+use Prim.Native.Nat.{ℕ, _%_, _≤_, _<_, _^_}
+use native.Mathlib.Nat.{mod-eq-of-lt, lt-of-lt-of-le, pos-of-ne-zero}
+use lib.Dec.{eqb}
 use lib.ListN.{set}
 use lib.Seq.{set-getD}
 use borrow.Author.Tests.{eq-eqb, ne-eqb}
@@ -18,6 +20,8 @@ use Rattle.model.specs.declared.Left.{Left}
 use Rattle.model.specs.declared.Outcome.{Outcome}
 use Rattle.model.specs.declared.Answer.the-variants.{Done}
 use Rattle.model.specs.Table.{most, noPort, noCopies, portIn, portAt, copiesAt, putPort}
+use Rattle.model.specs.Ring.{next}
+use Rattle.model.specs.Laws.Ring.{next-any}
 use Rattle.model.specs.Points.{pointOf, settled}
 use Rattle.model.specs.Step.{withValue, step}
 use Rattle.model.specs.Cost.{old, charge}
@@ -31,6 +35,18 @@ pub record Sight (v : View) : Type 0 where
   pub seen : v .own .work .seenowner < v .d
   pub bits : v .active < 2 ^ (v .d)
   pub unworn : v .own .point ≡ 4 → v .own .made < most
+
+-- a port of a table is below 64: its bit in a mask is its own
+pub round : {v : View} → Sight v → v .k % 64 ≡ v .k
+round s = mod-eq-of-lt (lt-of-lt-of-le (s .port) (s .ports))
+
+-- `next` as the code asks it, in the ring of 64, is next in the ring of D
+pub ringed : {v : View} → Sight v → (v .active ≡ 0 → ⊥) → (r : ℕ) → r ≡ cond (eqb (v .active) 0) 64 (next 64 (v .own .work .seenowner % 64) (v .active))
+    → r ≡ next (v .d) (v .own .work .seenowner) (v .active)
+ringed {v} s n r e =
+    e
+    ∙ rw (ne-eqb (v .active) 0 n, mod-eq-of-lt (lt-of-lt-of-le (s .seen) (s .ports)))
+    (next-any (s .seen) (s .ports) (pos-of-ne-zero n) (s .bits))
 
 -- what port k sees, where q is the port that it touches, and what its step changes
 abbrev pub viewOn : Shared → ℕ → Port → Port → View

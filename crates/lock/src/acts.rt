@@ -1,5 +1,4 @@
 // What a step leaves, on what it can see: the shared part, its own port, and the port that it touches.
-use crate::costs;
 use crate::steps;
 use model::Copies;
 use model::Left;

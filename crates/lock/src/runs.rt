@@ -1,6 +1,5 @@
 // Runs: orders carried out on one table, with one check of the table at the start.
 use crate::acts;
-use crate::costs;
 use answers::STEP;
 use model::Answer;
 use model::Made;

@@ -1,6 +1,4 @@
 // The steps: port, word and ACTIVE in, the same out. A line for each point; the three promotions are one body with a return point.
-use crate::masks;
-use crate::ring;
 use model::Move;
 use model::Port;
 use model::View;
@@ -164,7 +162,7 @@ fn entering(v: View) -> Move
         }
         4 => new_spin(v),
         5 => {
-            p.point = pick(points::masks::stands(v.active, v.k), 20, 6);
+            p.point = pick(masks::stands(v.active, v.k), 20, 6);
             changed(v, p)
         }
         6 => {
@@ -207,7 +205,7 @@ fn leaving(v: View) -> Move
             changed(v, p)
         }
         14 => {
-            p.point = pick(points::masks::stands(v.active, v.k), 15, 16);
+            p.point = pick(masks::stands(v.active, v.k), 15, 16);
             changed(v, p)
         }
         15 => {
@@ -255,7 +253,7 @@ fn asked(v: View, x: u8) -> Port
         p.point = x + 4;
         return p;
     }
-    let j = ring::next(p.work.seenowner as u64, v.active) as u8;
+    let j = masks::next(p.work.seenowner as u64, v.active) as u8;
     p.work.candidate = j;
     p.point = x + 2;
     p

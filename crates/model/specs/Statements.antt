@@ -26,21 +26,24 @@ use Rattle.model.specs.Laws.Grants.{done-steps}
 use Rattle.model.specs.Laws.Waiting.{waiting}
 use Rattle.model.specs.Laws.Passage.{passage}
 
--- Demand 2, 'exactly the effect': two results that meet a promise are equal
+-- Demand 2, 'exactly the effect': two results that meet a promise are equal; first for a promise of any kind of result
+pub one : {A : Type 0} {x r s : A} → r ≡ x → s ≡ x → r ≡ s
+one p q = p ∙ sym q
+
 pub event-one : (t : Table) (k e : ℕ) (r s : Outcome) → r ≡ event t k e → s ≡ event t k e → r ≡ s
-event-one t k e r s p q = p ∙ sym q
+event-one t k e r s = one
 
 pub fresh-one : (d : ℕ) (r s : Made) → r ≡ fresh d → s ≡ fresh d → r ≡ s
-fresh-one d r s p q = p ∙ sym q
+fresh-one d r s = one
 
 pub run-one : (t : Table) (os : List Order) (r s : Made) → r ≡ run t os → s ≡ run t os → r ≡ s
-run-one t os r s p q = p ∙ sym q
+run-one t os r s = one
 
 pub answers-one : (t : Table) (os : List Order) (places r s : List ℕ) → r ≡ runAnswers t os places → s ≡ runAnswers t os places → r ≡ s
-answers-one t os places r s p q = p ∙ sym q
+answers-one t os places r s = one
 
 pub paid-one : (t : Table) (k e : ℕ) (r s : Outcome) → r ≡ paidEvent t k e → s ≡ paidEvent t k e → r ≡ s
-paid-one t k e r s p q = p ∙ sym q
+paid-one t k e r s = one
 
 -- On a good table an order whose check has been paid is the event
 pub paid-is-event : (t : Table) (k e : ℕ) → good t ≡ true → paidEvent t k e ≡ event t k e

@@ -1,3 +1,2 @@
-// Sets of ports and of points as masks, and the tables by point: which working values have their place there, which word it touches and how.
-pub mod masks;
+// The tables by point: which working values have their place there, which word it touches and how.
 pub mod places;

@@ -8,7 +8,7 @@ use Rattle.model.specs.declared.Copies.{Copies}
 use Rattle.model.specs.declared.Shared.{Shared}
 use Rattle.model.specs.Good.{sizeGood, sharedGood, good}
 use Rattle.rules.specs.Check.{placeGoodOn}
-use Rattle.points.specs.Statements.{one}
+use Rattle.model.specs.Statements.{one}
 
 pub size-good-one : (d : ℕ) (r s : Bool) → r ≡ sizeGood d → s ≡ sizeGood d → r ≡ s
 size-good-one d r s = one

@@ -5,7 +5,6 @@ use model::ROOM;
 use model::Shared;
 use model::Table;
 use model::Work;
-use points::masks;
 use points::places;
 ghost use mathlib.Core.Path.{_≡_};
 ghost use Prim.Native.Nat.{_<_, _≤_};

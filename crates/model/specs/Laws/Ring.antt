@@ -3,7 +3,7 @@ use mathlib.Core.Path.{_≡_, sym, ap, _∙_}
 use mathlib.Core.Logic.{_≢_, _⊎_, inl, inr}
 use mathlib.Core.Bool.{true, false, true≢false}
 use Prim.Native.Nat.{ℕ, zero, suc, _+_, _-_, _/_, _^_, _≤_, _<_, zero-le}
-use native.Mathlib.Nat.{le-refl, eq-or-lt-of-le, lt-of-not-le, lt-of-lt-of-le, le-of-suc-le-suc}
+use native.Mathlib.Nat.{le-refl, eq-zero-or-pos, eq-or-lt-of-le, lt-of-not-le, lt-of-lt-of-le, le-of-suc-le-suc}
 use native.Mathlib.Omega.{arith}
 use lib.Dec.{eqb, ltb}
 use lib.Pow.{pow-mono, shr-le}
@@ -182,3 +182,12 @@ module _ {d o a : ℕ} (h : o < d) (w : d ≤ 64) (p : 0 < a) (l : a < 2 ^ d) wh
 
       b : o + 1 + t < d
       b = inside l s
+
+-- no port at d or above is in the set, so the ring of d and the ring of 64 have the same next
+module _ {d o a : ℕ} (h : o < d) (w : d ≤ 64) (p : 0 < a) (l : a < 2 ^ d) where
+  same : (a / 2 ^ o / 2 ≡ 0) ⊎ (0 < a / 2 ^ o / 2) → next 64 o a ≡ next d o a
+  same (inl z) = sym (next-lowest (lt-of-lt-of-le h w) (le-refl 64) p (fits h w p l) z) ∙ next-lowest h w p l z
+  same (inr q) = sym (next-above (lt-of-lt-of-le h w) (le-refl 64) p (fits h w p l) q) ∙ next-above h w p l q
+
+  pub next-any : next 64 o a ≡ next d o a
+  next-any = same (eq-zero-or-pos (a / 2 ^ o / 2))

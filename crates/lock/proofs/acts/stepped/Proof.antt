@@ -1,5 +1,5 @@
 use borrow.Author.Needs.{needs}
-use Rattle.lock.specs.Sight.{steppedOn}
+use Rattle.lock.specs.Sight.{round, steppedOn}
 use Rattle.lock.proofs.acts.stepped.Statement.{statement}
 use Rattle.lock.proofs.acts.stepped.Tie as tie
 
@@ -10,6 +10,7 @@ returns c =
       c .before .settled .ensures,
       c .before .before .before .before .old .ensures,
       c .before .before .before .before .before .charge .ensures,
+      round (c .before .before .before .before .before .before .before .before .before .before .pre),
       c .before .before .before .before .before .before .kept-copies .ensures,
       c .before .before .before .before .before .before .before .before .step .ensures,
     )

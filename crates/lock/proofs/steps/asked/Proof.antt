@@ -6,6 +6,7 @@ use borrow.Author.Tests.{eq-eqb, ne-eqb, eqb-false}
 use Rattle.model.specs.Points.{two, three, four, tens}
 use Rattle.model.specs.Step.{unasked, step}
 use Rattle.model.specs.Laws.Ring.{next-below}
+use Rattle.lock.specs.Sight.{ringed}
 use Rattle.lock.proofs.steps.asked.Statement.{statement}
 use Rattle.lock.proofs.steps.asked.Tie as tie
 
@@ -25,18 +26,14 @@ cast-j : tie.Need-cast-j
 cast-j c =
     let k = c .before .before .before .before .before in
     let s = k .pre .0 in
-    rw (c .next .ensures (k .args .v .d) (s .seen) (s .ports) (s .bits)) (omega (arith, next-below (k .args .v .active) (s .seen), s .ports))
+    rw (ringed s (c .before .before .if1 .left) _ (c .next .ensures)) (omega (arith, next-below (k .args .v .active) (s .seen), s .ports))
 
 returns-3 : tie.Need-returns-3
 unfolding step
 returns-3 c y e =
     let k = c .before .before .before .before .before .before in
-    let s = k .pre .0 in
-    rw (
-      ne-eqb (k .args .v .active) 0 (c .before .before .before .if1 .left),
-      c .before .next .ensures (k .args .v .d) (s .seen) (s .ports) (s .bits),
-      e,
-    )
+    let n = c .before .before .before .if1 .left in
+    rw (ne-eqb (k .args .v .active) 0 n, ringed (k .pre .0) n _ (c .before .next .ensures), e)
 
 pub asked-spec : {M : Type 1} → statement M
 asked-spec =

@@ -2,19 +2,16 @@
 -- last arm is left with the points below 11 that have no step.
 use mathlib.Core.Path.{_≡_, sym, ap, _∙_}
 use Prim.Native.Nat.{ℕ}
-use native.Mathlib.Omega.{arith}
 use borrow.Author.Needs.{needs}
 use Rattle.model.specs.Points.{pointOf}
 use Rattle.model.specs.Step.{step}
+use Rattle.lock.specs.Sight.{round}
 use Rattle.lock.specs.Match.{entryKeys, outside, no-entry}
 use Rattle.lock.proofs.steps.entering.Statement.{statement}
 use Rattle.lock.proofs.steps.entering.Tie as tie
 
 new-spin-requires : tie.Need-new-spin-requires
 new-spin-requires c κs = c .before .before .pre .unworn (c .match .keys4)
-
-bit-added-requires : tie.Need-bit-added-requires
-bit-added-requires c κs = omega (arith, c .before .before .pre)
 
 returns : tie.Need-returns
 unfolding step
@@ -38,7 +35,13 @@ returns-5 c h = rw (c .before .before .before .match .keys5, c .changed4 .ensure
 
 returns-6 : tie.Need-returns-6
 unfolding step
-returns-6 c h = rw (c .before .before .match .keys6, c .changed-active .ensures, c .before .bit-added .ensures)
+returns-6 c h =
+    rw (
+      c .before .before .match .keys6,
+      c .changed-active .ensures,
+      c .before .bit-added .ensures,
+      round (c .before .before .before .before .pre),
+    )
 
 returns-7 : tie.Need-returns-7
 unfolding step
@@ -74,7 +77,7 @@ entering-spec =
     (λ c κs. search needs)
     (λ c κs. search needs)
     (λ c κs. search needs)
-    bit-added-requires
+    (λ c κs. search needs)
     (λ c κs. search needs)
     (λ c κs. search needs)
     (λ c κs. search needs)

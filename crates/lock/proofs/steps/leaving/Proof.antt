@@ -4,12 +4,10 @@ use mathlib.Core.Path.{sym, _∙_}
 use native.Mathlib.Omega.{arith}
 use borrow.Author.Needs.{needs}
 use Rattle.model.specs.Step.{step}
+use Rattle.lock.specs.Sight.{round}
 use Rattle.lock.specs.Match.{exitKeys, outside, no-exit}
 use Rattle.lock.proofs.steps.leaving.Statement.{statement}
 use Rattle.lock.proofs.steps.leaving.Tie as tie
-
-bit-taken-requires : tie.Need-bit-taken-requires
-bit-taken-requires c κs = omega (arith, c .before .before .pre)
 
 released-requires : tie.Need-released-requires
 released-requires c κs = omega (arith, c .before .before .pre)
@@ -28,7 +26,13 @@ returns-3 c l h = rw (c .before .before .before .match .keys3, c .changed3 .ensu
 
 returns-4 : tie.Need-returns-4
 unfolding step
-returns-4 c l h = rw (c .before .before .match .keys4, c .changed-active .ensures, c .before .bit-taken .ensures)
+returns-4 c l h =
+    rw (
+      c .before .before .match .keys4,
+      c .changed-active .ensures,
+      c .before .bit-taken .ensures,
+      round (c .before .before .before .before .pre),
+    )
 
 returns-5 : tie.Need-returns-5
 unfolding step
@@ -60,7 +64,7 @@ leaving-spec =
     (λ c κs. search needs)
     (λ c κs. search needs)
     (λ c κs. search needs)
-    bit-taken-requires
+    (λ c κs. search needs)
     (λ c κs. search needs)
     (λ c κs. search needs)
     released-requires

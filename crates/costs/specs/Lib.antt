@@ -1,0 +1,2 @@
+-- What is proved of this crate's promises.
+pub mod Statements

@@ -1,0 +1,23 @@
+-- Two results that meet the promise of a function of this crate are equal: each promise gives one value at every argument.
+use mathlib.Core.Path.{_≡_}
+use mathlib.Core.Bool.{Bool}
+use Prim.Native.Nat.{ℕ, _%_}
+use Rattle.model.specs.declared.Work.{Work}
+use Rattle.model.specs.declared.Port.{Port}
+use Rattle.model.specs.declared.Copies.{Copies}
+use Rattle.model.specs.declared.Shared.{Shared}
+use Rattle.model.specs.declared.Touch.{Touch}
+use Rattle.model.specs.declared.Charge.{Charge}
+use Rattle.model.specs.declared.Cell.{Cell}
+use Rattle.model.specs.Cost.{home, old, charge}
+use Rattle.model.specs.Statements.{one}
+
+pub home-one : (cell : Cell) (k : ℕ) (w : Work) (r s : ℕ) → r ≡ home cell k w → s ≡ home cell k w → r ≡ s
+home-one cell k w r s = one
+
+pub old-one : (cell : Cell) (w : Work) (q : Port) (r s : Bool) → r ≡ old cell w q → s ≡ old cell w q → r ≡ s
+old-one cell w q r s = one
+
+pub charge-one : (u : Touch) (k : ℕ) (w : Work) (q : Port) (s : Shared) (c : Copies) (x y : Charge) → x ≡ charge u (k % 64) w q s c
+    → y ≡ charge u (k % 64) w q s c → x ≡ y
+charge-one u k w q s c x y = one
