@@ -84,19 +84,14 @@ passedOver k t (o ∷ os) =
     0
     (cond (stands (after t o .shared .active) k) (cond (grants t o) 1 0 + passedOver k (after t o) os) 0)
 
--- the cached and the distributed costs of port k's own steps, up to its step at 19 or its next crash
+-- what port k's own steps cost in one model, up to its step at 19 or its next crash
 unfoldable pub ends : ℕ → Table → Order → Bool
 ends k t o = done k crash t o || (done k stepping t o && eqb (portAt t k .point) 19)
 
-unfoldable pub cachedSum : ℕ → Table → List Order → ℕ
-cachedSum k t [] = 0
-cachedSum k t (o ∷ os) =
-    cond (done k stepping t o) (answered t o .cached) 0 + cond (ends k t o) 0 (cachedSum k (after t o) os)
-
-unfoldable pub distributedSum : ℕ → Table → List Order → ℕ
-distributedSum k t [] = 0
-distributedSum k t (o ∷ os) =
-    cond (done k stepping t o) (answered t o .distributed) 0 + cond (ends k t o) 0 (distributedSum k (after t o) os)
+unfoldable pub passageCost : (Outcome → ℕ) → ℕ → Table → List Order → ℕ
+passageCost cost k t [] = 0
+passageCost cost k t (o ∷ os) =
+    cond (done k stepping t o) (cost (answered t o)) 0 + cond (ends k t o) 0 (passageCost cost k (after t o) os)
 
 -- no order of the list is a step of port k
 unfoldable pub stepless : ℕ → List Order → Bool

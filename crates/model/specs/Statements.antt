@@ -12,7 +12,7 @@ use Rattle.model.specs.Mask.{stands}
 use Rattle.model.specs.Ring.{next, distance}
 use Rattle.model.specs.Good.{good}
 use Rattle.model.specs.Event.{numberOf, enter, stepping, crash, free, event, fresh}
-use Rattle.model.specs.Run.{Order, order, after, ran, run, runAnswers, done, stepsAt, passedOver, cachedSum, distributedSum, stepless}
+use Rattle.model.specs.Run.{Order, order, after, ran, run, runAnswers, done, stepsAt, passedOver, passageCost, stepless}
 use Rattle.model.specs.Paid.{paidEvent}
 use Rattle.model.specs.Laws.Ring.{next-stands, next-nearest}
 use Rattle.model.specs.Laws.Cases.{refused-free, orders-free}
@@ -110,7 +110,7 @@ module _ (d : ℕ) (some : 1 ≤ d) (fits : d ≤ room) where
   -- 'From a fresh table no passage costs more than 33 in either model': from E or X at a port until its step at 19 or its next X
   pub passage-limit : (os : List Order) (k : ℕ) (o : Order) (more : List Order)
       → (done k enter (reached d os) o || done k crash (reached d os) o) ≡ true
-      → (cachedSum k (after (reached d os) o) more ≤ 33) × (distributedSum k (after (reached d os) o) more ≤ 33)
+      → (passageCost (λ u. u .cached) k (after (reached d os) o) more ≤ 33) × (passageCost (λ u. u .distributed) k (after (reached d os) o) more ≤ 33)
   passage-limit os k o more = passage (reached d os) k o more (reached-sized d os) (reached-safe d os .life)
 
   -- For whoever builds on the lock: which orders change the word, a port's bit in ACTIVE, its GO and its STATUS

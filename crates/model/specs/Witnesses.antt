@@ -7,7 +7,7 @@ use lib.ListN.{replicate}
 use Rattle.model.specs.declared.Table.{Table}
 use Rattle.model.specs.Table.{CS, portAt, freshTable}
 use Rattle.model.specs.Event.{enter, stepping, crash, leave}
-use Rattle.model.specs.Run.{Order, order, after, ran, done, passedOver, cachedSum, distributedSum}
+use Rattle.model.specs.Run.{Order, order, after, ran, done, passedOver, passageCost}
 use Rattle.model.specs.Laws.Compute.{everything}
 
 -- n steps of port k
@@ -44,10 +44,10 @@ passed-over = (refl, refl, refl)
 abbrev passage : List Order
 passage = steps 14 0 ++ (order 0 leave ∷ steps 13 0)
 
-pub lone-passage : (cachedSum 0 (after (freshTable 2) (order 0 enter)) (steps 14 0) ≡ 9)
-    × (distributedSum 0 (after (freshTable 2) (order 0 enter)) (steps 14 0) ≡ 6)
-    × (cachedSum 0 (after (freshTable 2) (order 0 enter)) passage ≡ 15)
-    × (distributedSum 0 (after (freshTable 2) (order 0 enter)) passage ≡ 14)
+pub lone-passage : (passageCost (λ u. u .cached) 0 (after (freshTable 2) (order 0 enter)) (steps 14 0) ≡ 9)
+    × (passageCost (λ u. u .distributed) 0 (after (freshTable 2) (order 0 enter)) (steps 14 0) ≡ 6)
+    × (passageCost (λ u. u .cached) 0 (after (freshTable 2) (order 0 enter)) passage ≡ 15)
+    × (passageCost (λ u. u .distributed) 0 (after (freshTable 2) (order 0 enter)) passage ≡ 14)
     × (portAt (ran (after (freshTable 2) (order 0 enter)) passage) 0 .point ≡ 0)
 unfolding everything
 lone-passage = (refl, refl, refl, refl, refl)

@@ -16,7 +16,7 @@ use Rattle.model.specs.declared.Answer.the-variants.{Done}
 use Rattle.model.specs.Table.{room, portAt, Sized}
 use Rattle.model.specs.Points.{p19, pointOf, settled}
 use Rattle.model.specs.Event.{numberOf, enter, stepping, crash, callOff, leave, ordered, viewOf, moveOf, stepped}
-use Rattle.model.specs.Run.{Order, answered, after, done, ends, cachedSum, distributedSum}
+use Rattle.model.specs.Run.{Order, answered, after, done, ends, passageCost}
 use Rattle.model.specs.Laws.Tests.{conjunct, split}
 use Rattle.model.specs.Laws.Cases.{Allowed, enters, crashes, callsOff, leaves, Stepped, Case, wasRefused, wasOrdered, wasStepped, cases, after-case}
 use Rattle.model.specs.Laws.Own.{numberOfPoint, number}
@@ -142,32 +142,27 @@ unless : (b : Bool) {x y : ℕ} → x ≤ y → cond b 0 x ≤ cond b 0 y
 unless true h = le-refl 0
 unless false h = h
 
--- a sum of costs of one model along a run, as cachedSum and distributedSum are: nothing for no orders, and what an order costs port k, with what
--- the rest costs it unless its passage ends
-module _ (k : ℕ) (f : Outcome → ℕ) (sum : Table → List Order → ℕ)
-    (fee : (t : Table) → Life (portAt t k) → FeeOf t k (f (stepped t k)))
-    (no-order : (t : Table) → sum t [] ≡ 0)
-    (one-order : (t : Table) (o : Order) (os : List Order)
-    → sum t (o ∷ os) ≡ cond (done k stepping t o) (f (answered t o)) 0 + cond (ends k t o) 0 (sum (after t o) os)) where
-  -- it is no more than the budget
-  sum-within : (t : Table) (os : List Order) → Sized t → ((j : ℕ) → Life (portAt t j)) → sum t os ≤ budget t k
-  sum-within t [] s l = rw (no-order t) (omega arith)
-  sum-within t (o ∷ os) s l =
-      let rest = unless (ends k t o) (sum-within (after t o) os (after-sized t o s) (life-after t o s l)) in
-      rw (one-order t o os) (omega (arith, pays k t o s l f (fee t (l k))))
+-- in a model in which every step's fee is paid from the budget
+module _ (k : ℕ) (cost : Outcome → ℕ) (fee : (t : Table) → Life (portAt t k) → FeeOf t k (cost (stepped t k))) where
+  -- what a passage costs is no more than the budget
+  within-budget : (t : Table) (os : List Order) → Sized t → ((j : ℕ) → Life (portAt t j)) → passageCost cost k t os ≤ budget t k
+  unfolding passageCost
+  within-budget t [] s l = omega arith
+  within-budget t (o ∷ os) s l =
+      let rest = unless (ends k t o) (within-budget (after t o) os (after-sized t o s) (life-after t o s l)) in
+      omega (arith, rest, pays k t o s l cost (fee t (l k)))
 
   -- which is 33 where a passage starts
   limit : (t : Table) (o : Order) (os : List Order) → Sized t → ((j : ℕ) → Life (portAt t j))
-      → (done k enter t o || done k crash t o) ≡ true → sum (after t o) os ≤ 33
+      → (done k enter t o || done k crash t o) ≡ true → passageCost cost k (after t o) os ≤ 33
   unfolding budgetAt
-  limit t o os s l d = rw (starts t k o s d) at (sum-within (after t o) os (after-sized t o s) (life-after t o s l))
+  limit t o os s l d = rw (starts t k o s d) at (within-budget (after t o) os (after-sized t o s) (life-after t o s l))
 
 -- after an E or X that is done at port k, until k's step at 19 or its next X, k's steps cost no more than 33 in either model
 pub passage : (t : Table) (k : ℕ) (o : Order) (os : List Order) → Sized t → ((j : ℕ) → Life (portAt t j))
     → (done k enter t o || done k crash t o) ≡ true
-    → (cachedSum k (after t o) os ≤ 33) × (distributedSum k (after t o) os ≤ 33)
-unfolding cachedSum distributedSum
+    → (passageCost (λ u. u .cached) k (after t o) os ≤ 33) × (passageCost (λ u. u .distributed) k (after t o) os ≤ 33)
 passage t k o os s l d = (
-  limit k (λ u. u .cached) (cachedSum k) (λ t l. fees t k l .0) (λ t. refl) (λ t o os. refl) t o os s l d,
-  limit k (λ u. u .distributed) (distributedSum k) (λ t l. fees t k l .1) (λ t. refl) (λ t o os. refl) t o os s l d,
+  limit k (λ u. u .cached) (λ t l. fees t k l .0) t o os s l d,
+  limit k (λ u. u .distributed) (λ t l. fees t k l .1) t o os s l d,
 )
