@@ -23,9 +23,9 @@ use Rattle.model.specs.Laws.Rules.{shared-rules}
 use Rattle.model.specs.Laws.Kept.{good-after, made-good, ran-sized, ran-d}
 use Rattle.lock.specs.Turns.{free-code}
 use Rattle.lock.specs.Single.{bad-event, code-number}
+use Rattle.layout.specs.Bytes.{Bytes}
+use Rattle.layout.specs.Layout.{size}
 use Rattle.image.specs.declared.Written.{Written}
-use Rattle.image.specs.Bytes.{Bytes}
-use Rattle.image.specs.Layout.{size}
 use Rattle.image.specs.Image.{isDone, isImage, held, dIn, encode, opened, decode, refused, putAnswer, writeAnswer, written, roomAfter, Puts}
 use Rattle.image.specs.Laws.Writing.{length-encode}
 use Rattle.image.specs.Laws.Reading.{sets-whole}

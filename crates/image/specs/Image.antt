@@ -13,9 +13,9 @@ use Rattle.model.specs.declared.Answer.the-variants.{Done, BadTable, ShortRoom,
 use Rattle.model.specs.Table.{room, noPort, noCopies, freshTable}
 use Rattle.model.specs.Good.{sizeGood, good}
 use Rattle.model.specs.Event.{numberOf}
+use Rattle.layout.specs.Bytes.{pack, unpack, packs, unpacks}
+use Rattle.layout.specs.Layout.{sharedWidths, portWidths, copiedWidths, copiesWidths, headWidths, sharedValues, portValues, copiedValues, copiesValues, headValues, sharedOf, portOf, copiesOf, sharedPlace, portPlace, copiesPlace, size}
 use Rattle.image.specs.declared.Written.{Written}
-use Rattle.image.specs.Bytes.{pack, unpack, packs, unpacks}
-use Rattle.image.specs.Layout.{sharedWidths, portWidths, copiedWidths, copiesWidths, headWidths, sharedValues, portValues, copiedValues, copiesValues, headValues, sharedOf, portOf, copiesOf, sharedPlace, portPlace, copiesPlace, size}
 
 -- the image of a table
 unfoldable pub encode : Table → List ℕ

@@ -1,6 +1,4 @@
 -- Laws of the definitions: nothing here needs to be believed.
-pub mod Digits
-pub mod Records
 pub mod Rows
 pub mod Reading
 pub mod Sound

@@ -11,9 +11,9 @@ use Rattle.model.specs.declared.Answer.the-variants.{Done}
 use Rattle.model.specs.Table.{room, Sized}
 use Rattle.model.specs.Good.{good}
 use Rattle.model.specs.Laws.Rules.{shared-rules}
-use Rattle.image.specs.Bytes.{Bytes}
+use Rattle.layout.specs.Bytes.{Bytes}
+use Rattle.layout.specs.Layout.{size}
 use Rattle.image.specs.declared.Written.{Written}
-use Rattle.image.specs.Layout.{size}
 use Rattle.image.specs.Image.{encode, opened, decode, Puts, Writes}
 use Rattle.image.specs.Laws.Promises.{size-is, encode-bytes, write-puts, put-room, decode-done, opened-encoded, opened-size, opened-sized}
 use Rattle.image.specs.Laws.Writing.{length-encode}

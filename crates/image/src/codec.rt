@@ -4,7 +4,7 @@ ghost use mathlib.Core.Bool.{true};
 ghost use Prim.Native.Nat.{_+_, _≤_};
 ghost use lib.ListN.{length, take, drop};
 ghost use lib.Seq.{sets};
-ghost use Rattle.image.specs.Bytes.{little, value, sum, pack, unpack};
+ghost use Rattle.layout.specs.Bytes.{little, value, sum, pack, unpack};
 ghost use Rattle.image.specs.Image.{same};
 ghost use Rattle.image.specs.Laws.Rows.{narrow};
 

@@ -1,6 +1,5 @@
 // Images of tables: document 01, section 'The image'.
 mod codec;
-mod layout;
 mod parts;
 pub mod reader;
 mod sound;

@@ -1,6 +1,5 @@
 // The records of a table in the bytes of an image: each put at a place, and got from one.
 use crate::codec;
-use crate::layout;
 use model::Copies;
 use model::Port;
 use model::Shared;
@@ -13,8 +12,8 @@ ghost use Prim.Native.Nat.{_+_, _≤_, _<_};
 ghost use lib.ListN.{length, drop};
 ghost use lib.Seq.{sets};
 ghost use Rattle.model.specs.Table.{room, noPort, noCopies};
-ghost use Rattle.image.specs.Bytes.{sum, pack, unpack};
-ghost use Rattle.image.specs.Layout as Layout;
+ghost use Rattle.layout.specs.Bytes.{sum, pack, unpack};
+ghost use Rattle.layout.specs.Layout as Layout;
 ghost use Rattle.image.specs.Laws.Reading.{portsIn, sharedIn};
 
 // A port that is all 0, and no copies of a port's words.
@@ -63,10 +62,11 @@ pub fn ports_in(bytes: &[u8]) -> u64
     if !good::size_good(d) {
         return 0;
     }
-    if bytes.len() != layout::size(d) {
+    let n = d as u8;
+    if bytes.len() != layout::size(n) {
         return 0;
     }
-    let head = layout::head_values(d);
+    let head = layout::head_values(n);
     if codec::same(&v, &head) { d } else { 0 }
 }
 
@@ -125,7 +125,7 @@ pub fn shared_in(bytes: &[u8], d: u64) -> Shared
             word,
         };
     }
-    shared_at(bytes, d, layout::HEAD_SIZE, layout::port_place(d as usize))
+    shared_at(bytes, d, layout::HEAD_SIZE, layout::port_place(d as u8))
 }
 
 // Puts head and shared record at the room's start, and gives the place after them.
@@ -135,7 +135,7 @@ pub fn put_start(room: &mut [u8], s: Shared) -> usize
     ensures { λ _. ⌜ now (room .exit) ≡ sets (now (room .entry)) 0 (pack Layout.headWidths (Layout.headValues (s .d)) ++ pack Layout.sharedWidths (Layout.sharedValues s)) ⌝ }
 {
     let w = layout::HEAD;
-    let v = layout::head_values(s.d);
+    let v = layout::head_values(s.d as u8);
     let at = codec::put_row(room, 0, &w, &v);
     let u = layout::SHARED;
     let x = layout::shared_values(s);

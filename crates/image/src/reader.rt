@@ -1,5 +1,4 @@
 // The reader of images.
-use crate::layout;
 use crate::parts;
 use crate::sound;
 use model::Answer;
@@ -43,8 +42,8 @@ fn filled(bytes: &[u8], d: u64, answer: Answer) -> Made
     };
     let mut i: usize = 0;
     while i < n {
-        let p = parts::port_at(bytes, layout::port_place(i));
-        let c = parts::copies_at(bytes, layout::copies_place(n, i));
+        let p = parts::port_at(bytes, layout::port_place(i as u8));
+        let c = parts::copies_at(bytes, layout::copies_place(d as u8, i as u8));
         table.ports[i] = p;
         table.copies[i] = c;
         i += 1;

@@ -1,5 +1,4 @@
 // The check of an image's table where it stands: port by port, with no room for a table.
-use crate::layout;
 use crate::parts;
 use rules::good;
 ghost use mathlib.Core.Path.{_≡_};
@@ -23,7 +22,7 @@ fn made_in(bytes: &[u8], d: u64, j: u8) -> u16
     if d <= wide(j) {
         return 0;
     }
-    let p = parts::port_at(bytes, layout::port_place(j as usize));
+    let p = parts::port_at(bytes, layout::port_place(j));
     p.made
 }
 
@@ -40,8 +39,8 @@ pub fn sound_in(bytes: &[u8], d: u64) -> u64
     let mut ok = good::shared_good(s, made_in(bytes, d, s.word.owner));
     let mut i: usize = 0;
     while i < n {
-        let p = parts::port_at(bytes, layout::port_place(i));
-        let c = parts::copies_at(bytes, layout::copies_place(n, i));
+        let p = parts::port_at(bytes, layout::port_place(i as u8));
+        let c = parts::copies_at(bytes, layout::copies_place(d as u8, i as u8));
         let a = made_in(bytes, d, p.work.seenowner);
         let b = made_in(bytes, d, p.work.candidate);
         ok = ok & good::place_good(s, i as u64, p, c, a, b);

@@ -1,6 +1,5 @@
 // The writer of images.
 use crate::Written;
-use crate::layout;
 use crate::parts;
 use model::Answer;
 use model::ROOM;
@@ -69,7 +68,7 @@ fn put_if(table: Table, room: &mut [u8], check: bool) -> Written
             answer: Answer::BadTable,
         };
     }
-    let size = layout::size(d);
+    let size = layout::size(d as u8);
     if room.len() < size {
         return Written {
             length: 0,

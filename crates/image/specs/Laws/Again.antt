@@ -10,11 +10,11 @@ use lib.Dec.{eqb}
 use lib.ListN.{length, take, drop, replicate, length-map, length-drop, take-append-drop}
 use lib.Seq.{take-at, take-all, drop-drop}
 use Rattle.model.specs.Table.{room, noPort, noCopies}
-use Rattle.image.specs.Bytes.{Bytes, sum, pack, unpack, packs, unpacks}
-use Rattle.image.specs.Layout.{sharedWidths, portWidths, copiedWidths, copiesWidths, headWidths, sharedValues, portValues, copiedValues, copiesValues, headValues, sharedOf, portOf, copiesOf, bodies, sharedPlace, portPlace, copiesPlace, size}
+use Rattle.layout.specs.Bytes.{Bytes, sum, pack, unpack, packs, unpacks}
+use Rattle.layout.specs.Layout.{sharedWidths, portWidths, copiedWidths, copiesWidths, headWidths, sharedValues, portValues, copiedValues, copiesValues, headValues, sharedOf, portOf, copiesOf, bodies, sharedPlace, portPlace, copiesPlace, size}
+use Rattle.layout.specs.Laws.Digits.{bytes-drop}
+use Rattle.layout.specs.Laws.Records.{pack-unpack, packs-unpacks, length-unpacks}
 use Rattle.image.specs.Image.{encode, same, dIn, isImage, held}
-use Rattle.image.specs.Laws.Digits.{bytes-drop}
-use Rattle.image.specs.Laws.Records.{pack-unpack, packs-unpacks, length-unpacks}
 use Rattle.image.specs.Laws.Reading.{image-tests}
 
 -- two lists that are the same are equal

@@ -17,9 +17,9 @@ use Rattle.model.specs.Good.{everyBelow, named, sizeGood, sharedGood, portEmpty
 use Rattle.model.specs.Laws.Tests.{conjunct, every-below}
 use Rattle.model.specs.Laws.Mask.{within-lt}
 use Rattle.model.specs.Laws.Rules.{shared-rules, port-rules}
-use Rattle.image.specs.Bytes.{sum}
-use Rattle.image.specs.Layout.{sharedWidths, portWidths, copiedWidths, copiesWidths, headWidths, sharedValues, portValues, copiedValues, copiesValues, version, bodies, contents, headValues}
-use Rattle.image.specs.Laws.Records.{Fits, AllFit}
+use Rattle.layout.specs.Bytes.{sum}
+use Rattle.layout.specs.Layout.{sharedWidths, portWidths, copiedWidths, copiesWidths, headWidths, sharedValues, portValues, copiedValues, copiesValues, version, bodies, contents, headValues}
+use Rattle.layout.specs.Laws.Records.{Fits, AllFit}
 
 -- the head of an image
 pub head-fits : (d : ℕ) → d ≤ room → Fits headWidths (headValues d)

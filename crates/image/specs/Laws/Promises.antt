@@ -11,12 +11,12 @@ use Rattle.model.specs.declared.Answer.the-variants.{Done}
 use Rattle.model.specs.Table.{room, Sized, noPort, noCopies}
 use Rattle.model.specs.Good.{good}
 use Rattle.model.specs.Event.{numberOf}
+use Rattle.layout.specs.Bytes.{Bytes, sum, pack, packs, unpacks}
+use Rattle.layout.specs.Layout.{sharedWidths, portWidths, copiedWidths, copiesWidths, headWidths, sharedValues, portValues, copiedValues, copiesValues, headValues, sharedOf, portOf, copiesOf, portPlace, copiesPlace, bodies, size}
+use Rattle.layout.specs.Laws.Digits.{bytes-append}
+use Rattle.layout.specs.Laws.Records.{pack-bytes, packs-bytes, length-unpacks}
 use Rattle.image.specs.declared.Written.{Written}
-use Rattle.image.specs.Bytes.{Bytes, sum, pack, packs, unpacks}
-use Rattle.image.specs.Layout.{sharedWidths, portWidths, copiedWidths, copiesWidths, headWidths, sharedValues, portValues, copiedValues, copiesValues, headValues, sharedOf, portOf, copiesOf, portPlace, copiesPlace, bodies, size}
 use Rattle.image.specs.Image.{encode, dIn, isImage, held, opened, decode, writeAnswer, written, roomAfter, Puts, Writes}
-use Rattle.image.specs.Laws.Digits.{bytes-append}
-use Rattle.image.specs.Laws.Records.{pack-bytes, packs-bytes, length-unpacks}
 use Rattle.image.specs.Laws.Reading.{image-tests}
 use Rattle.image.specs.Laws.Writing.{length-encode, answer-done}
 use Rattle.image.specs.Laws.Again.{encode-held}

@@ -18,12 +18,11 @@ use Rattle.model.specs.declared.Made.{Made}
 use Rattle.model.specs.declared.Answer.{Answer}
 use Rattle.model.specs.Table.{room, noPort, noCopies, freshTable}
 use Rattle.model.specs.Good.{sizeGood}
-use Rattle.image.specs.Bytes.{Bytes, sum, unpack, unpacks}
-use Rattle.image.specs.Layout.{sharedWidths, portWidths, copiedWidths, copiesWidths, headWidths, headValues, sharedOf, portOf, copiesOf, sharedPlace, portPlace, copiesPlace, bodies, size}
+use Rattle.layout.specs.Bytes.{Bytes, sum, unpack, unpacks, cut}
+use Rattle.layout.specs.Layout.{sharedWidths, portWidths, copiedWidths, copiesWidths, headWidths, headValues, sharedOf, portOf, copiesOf, sharedPlace, portPlace, copiesPlace, bodies, size}
+use Rattle.layout.specs.Laws.Digits.{bytes-drop}
+use Rattle.layout.specs.Laws.Records.{length-unpack, unpack-fits, cut-fits, length-unpacks, unpacks-more}
 use Rattle.image.specs.Image.{same, dIn, isImage, held, refused}
-use Rattle.image.specs.Laws.Digits.{bytes-drop}
-use Rattle.image.specs.Laws.Records.{length-unpack, unpack-fits, length-unpacks, unpacks-more}
-use Rattle.image.specs.Laws.Rows.{cut, cut-fits}
 
 -- D of an image, and 0 of bytes that are none
 unfoldable pub portsIn : List ℕ → ℕ

@@ -13,10 +13,10 @@ use Rattle.model.specs.declared.Answer.the-variants.{Done}
 use Rattle.model.specs.Table.{room, Sized, noPort, noCopies}
 use Rattle.model.specs.Good.{sizeGood, good}
 use Rattle.model.specs.Laws.Rules.{shared-rules}
-use Rattle.image.specs.Bytes.{sum, pack, unpack, packs, unpacks}
-use Rattle.image.specs.Layout.{sharedWidths, portWidths, copiedWidths, copiesWidths, headWidths, sharedValues, portValues, copiedValues, copiesValues, headValues, sharedOf, portOf, copiesOf, sharedPlace, portPlace, copiesPlace, size}
+use Rattle.layout.specs.Bytes.{sum, pack, unpack, packs, unpacks}
+use Rattle.layout.specs.Layout.{sharedWidths, portWidths, copiedWidths, copiesWidths, headWidths, sharedValues, portValues, copiedValues, copiesValues, headValues, sharedOf, portOf, copiesOf, sharedPlace, portPlace, copiesPlace, size}
+use Rattle.layout.specs.Laws.Records.{AllFit, length-pack, unpack-pack, unpacks-packs}
 use Rattle.image.specs.Image.{encode, same, dIn, isImage, held, decode}
-use Rattle.image.specs.Laws.Records.{AllFit, length-pack, unpack-pack, unpacks-packs}
 use Rattle.image.specs.Laws.Reading.{tables}
 use Rattle.image.specs.Laws.Writing.{length-encode, rows-long}
 use Rattle.image.specs.Laws.Fits.{head-fits, shared-fits, copied-fits, port-fits, copies-fits, all-fit, empty-above}

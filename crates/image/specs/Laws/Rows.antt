@@ -1,19 +1,18 @@
 -- Records as the code puts and gets them, field by field and byte by byte: one turn of each loop.
-use mathlib.Core.Path.{_≡_, refl, sym, ap, _∙_}
+use mathlib.Core.Path.{_≡_, sym, ap, _∙_}
 use mathlib.Core.Bool.{Bool, true, _&&_, and-true, and-assoc, and-eq-true-iff}
 use mathlib.Core.List.{List, [], _∷_, _++_}
-use Prim.Native.Nat.{ℕ, zero, suc, _+_, _-_, _*_, _/_, _%_, _^_, _≤_, _<_}
-use native.Mathlib.Nat.{mod-eq-of-lt, lt-of-lt-of-le, pow-le-pow-right, add-zero}
+use Prim.Native.Nat.{ℕ, zero, suc, _+_, _-_, _*_, _/_, _%_, _≤_, _<_}
+use native.Mathlib.Nat.{lt-of-lt-of-le, pow-le-pow-right, add-zero}
 use native.Mathlib.Numerals.{add-one}
 use native.Mathlib.Omega.{arith}
 use borrow.Author.Tests.{leb-true}
 use lib.Dec.{leb, eqb}
 use lib.ListN.{length, getD, set, take, drop, length-drop, length-set}
 use lib.Seq.{sets, length-sets, drop-cons, getD-take, getD-drop, drop-drop, drop-length, length-take-le}
-use Rattle.image.specs.Bytes.{Bytes, little, value, sum, pack, unpack}
+use Rattle.layout.specs.Bytes.{Bytes, little, value, sum, pack, unpack}
+use Rattle.layout.specs.Laws.Digits.{bytes-drop, bytes-take, length-little, value-below, value-from}
 use Rattle.image.specs.Image.{same}
-use Rattle.image.specs.Laws.Digits.{bytes-drop, bytes-take, length-little, value-below, value-from}
-use Rattle.image.specs.Laws.Records.{Fits}
 
 -- no field is wider than the code's numbers
 abbrev pub narrow : List ℕ → Bool
@@ -24,28 +23,6 @@ pub narrow-at : (ws : List ℕ) (i : ℕ) → narrow ws ≡ true → getD ws i 0
 narrow-at [] i e = omega arith
 narrow-at (w ∷ ws) zero e = leb-true w 8 (and-eq-true-iff (leb w 8) (narrow ws) .0 e .0)
 narrow-at (w ∷ ws) (suc i) e = narrow-at ws i (and-eq-true-iff (leb w 8) (narrow ws) .0 e .1)
-
--- the values from i on, each cut to its width
-abbrev pub cut : ℕ → List ℕ → List ℕ → List ℕ
-cut i [] vs = []
-cut i (w ∷ ws) vs = (getD vs i 0 % 256 ^ w) ∷ cut (suc i) ws vs
-
-pub cut-fits : (i : ℕ) (ws vs : List ℕ) → Fits ws (drop i vs) → cut i ws vs ≡ drop i vs
-cut-fits i [] vs f = go (drop i vs) f
-  where
-    go : (l : List ℕ) → Fits [] l → [] ≡ l
-    go [] f = refl
-    go (x ∷ l) f = absurd f
-cut-fits i (w ∷ ws) vs f = go (drop i vs) refl f (cut-fits (suc i) ws vs)
-  where
-    go : (l : List ℕ) → drop i vs ≡ l → Fits (w ∷ ws) l → (Fits ws (drop (suc i) vs) → cut (suc i) ws vs ≡ drop (suc i) vs)
-        → cut i (w ∷ ws) vs ≡ drop i vs
-    go [] e f g = absurd f
-    go (x ∷ l) e f g =
-        let z : i + 0 ≡ i = omega arith in
-        let h : getD vs i 0 ≡ x = rw z at (sym (getD-drop i vs 0 0) ∙ ap (λ (k : List ℕ). getD k 0 0) e) in
-        let r : drop (suc i) vs ≡ l = rw (add-one i) at (sym (drop-drop 1 i vs) ∙ ap (λ (k : List ℕ). drop 1 k) e) in
-        rw (e, h, mod-eq-of-lt (f .0), g (rw r (f .1)), r)
 
 -- stores one after the other
 pub sets-append : (l : List ℕ) (i : ℕ) (xs ys : List ℕ) → sets l i (xs ++ ys) ≡ sets (sets l i xs) (i + length xs) ys

@@ -17,10 +17,10 @@ use Rattle.model.specs.declared.Answer.the-variants.{Done, BadTable, BadImage}
 use Rattle.model.specs.Table.{room, noPort, noCopies, portAt, copiesAt}
 use Rattle.model.specs.Good.{everyBelow, sizeGood, sharedGood, portEmpty, placeGood, good}
 use Rattle.rules.specs.Check.{placeGoodOn, place-turn}
-use Rattle.image.specs.Bytes.{sum, unpack, unpacks}
-use Rattle.image.specs.Layout.{portWidths, copiesWidths, sharedOf, portOf, copiesOf, portPlace, copiesPlace}
+use Rattle.layout.specs.Bytes.{sum, unpack, unpacks}
+use Rattle.layout.specs.Layout.{portWidths, copiesWidths, sharedOf, portOf, copiesOf, portPlace, copiesPlace}
+use Rattle.layout.specs.Laws.Records.{length-unpacks}
 use Rattle.image.specs.Image.{dIn, isImage, held, refused, opened, decode}
-use Rattle.image.specs.Laws.Records.{length-unpacks}
 use Rattle.image.specs.Laws.Reading.{portsIn, sharedIn, madeIn, image-tests, is-image, no-image, port-there, copies-there}
 
 -- D where the table of the image is good, else 0; and the answer

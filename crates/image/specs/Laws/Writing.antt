@@ -10,10 +10,10 @@ use lib.Seq.{sets, length-sets, drop-cons, getD-take, length-take-le}
 use Rattle.model.specs.declared.Table.{Table}
 use Rattle.model.specs.declared.Answer.the-variants.{Done, BadTable, ShortRoom}
 use Rattle.model.specs.Table.{room, Sized, noPort, noCopies}
-use Rattle.image.specs.Bytes.{sum, pack, packs}
-use Rattle.image.specs.Layout.{sharedWidths, portWidths, copiedWidths, copiesWidths, headWidths, sharedValues, portValues, copiedValues, copiesValues, headValues, bodies, size}
+use Rattle.layout.specs.Bytes.{sum, pack, packs}
+use Rattle.layout.specs.Layout.{sharedWidths, portWidths, copiedWidths, copiesWidths, headWidths, sharedValues, portValues, copiedValues, copiesValues, headValues, bodies, size}
+use Rattle.layout.specs.Laws.Records.{length-pack, length-packs}
 use Rattle.image.specs.Image.{encode, putAnswer}
-use Rattle.image.specs.Laws.Records.{length-pack, length-packs}
 use Rattle.image.specs.Laws.Rows.{sets-append}
 
 -- what is stored keeps the length

@@ -4,7 +4,7 @@ use Prim.Native.Nat.{_+_, _-_, _*_, _≤_, _<_}
 use native.Mathlib.Omega.{arith}
 use borrow.Author.Needs.{needs}
 use lib.ListN.{getD, take, drop}
-use Rattle.image.specs.Bytes.{value}
+use Rattle.layout.specs.Bytes.{value}
 use Rattle.image.specs.Laws.Rows.{get-start, get-turn, get-fits}
 use Rattle.image.proofs.codec.get.Statement.{statement}
 use Rattle.image.proofs.codec.get.Tie as tie

@@ -1,7 +1,7 @@
 use mathlib.Core.Path.{refl, ap, _∙_}
 use native.Mathlib.Omega.{arith}
 use lib.ListN.{drop, replicate}
-use Rattle.image.specs.Layout.{copiesWidths, copiesOf}
+use Rattle.layout.specs.Layout.{copiesWidths, copiesOf}
 use Rattle.image.specs.Laws.Reading.{got}
 use borrow.Author.Needs.{needs}
 use Rattle.image.proofs.parts.copies_at.Statement.{statement}

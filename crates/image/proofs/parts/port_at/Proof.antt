@@ -1,9 +1,9 @@
 use mathlib.Core.Path.{refl, ap, _∙_}
 use native.Mathlib.Omega.{arith}
 use lib.ListN.{drop, replicate}
-use Rattle.image.specs.Bytes.{Bytes}
-use Rattle.image.specs.Layout.{portWidths, portOf}
-use Rattle.image.specs.Laws.Digits.{bytes-drop}
+use Rattle.layout.specs.Bytes.{Bytes}
+use Rattle.layout.specs.Layout.{portWidths, portOf}
+use Rattle.layout.specs.Laws.Digits.{bytes-drop}
 use Rattle.image.specs.Laws.Reading.{got-cut}
 use borrow.Author.Needs.{needs}
 use Rattle.image.proofs.parts.port_at.Statement.{statement}

@@ -2,9 +2,10 @@ use mathlib.Core.Path.{_≡_, refl, sym, _∙_}
 use native.Mathlib.Omega.{arith}
 use borrow.Author.Tests.{not-true, not-false}
 use lib.ListN.{replicate}
-use Rattle.image.specs.Bytes.{sum, unpack}
-use Rattle.image.specs.Layout.{headWidths}
+use Rattle.model.specs.Table.{room}
 use Rattle.rules.specs.Check.{size-fits}
+use Rattle.layout.specs.Bytes.{sum, unpack}
+use Rattle.layout.specs.Layout.{headWidths}
 use Rattle.image.specs.Laws.Reading.{got, too-short, wrong-size, wrong-length, wrong-head, right}
 use borrow.Author.Needs.{needs}
 use Rattle.image.proofs.parts.ports_in.Statement.{statement}
@@ -37,14 +38,18 @@ size-good-requires c κs = search needs
 returns-2 : tie.Need-returns-2
 returns-2 c = wrong-size _ _ (head-got (c .before .before .before)) (sym (c .before .size-good .ensures) ∙ not-true _ (c .if2 .taken))
 
+cast-n : tie.Need-cast-n
+unfolding room
+cast-n c = omega (arith, size-fits _ _ (c .before .size-good .ensures) (c .if2 .left))
+
 size-requires : tie.Need-size-requires
-size-requires c κs = size-fits _ _ (c .before .size-good .ensures) (c .if2 .left)
+size-requires c κs = search needs
 
 returns-3 : tie.Need-returns-3
 returns-3 c = wrong-length _ _ (head-got (c .before .before .before .before .before)) (λ e. c .if3 .taken (e ∙ sym (c .before .size .ensures)))
 
 head-values-requires : tie.Need-head-values-requires
-head-values-requires c κs = size-fits _ _ (c .before .before .before .size-good .ensures) (c .before .before .if2 .left)
+head-values-requires c κs = search needs
 
 slice-aggregate-same : tie.Need-slice-aggregate-same
 slice-aggregate-same c = search needs
@@ -77,6 +82,7 @@ ports-in-spec =
     array-read-d
     size-good-requires
     returns-2
+    cast-n
     size-requires
     returns-3
     head-values-requires

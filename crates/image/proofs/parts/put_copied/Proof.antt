@@ -1,6 +1,6 @@
 use native.Mathlib.Omega.{arith}
-use Rattle.image.specs.Layout.{copiedWidths, copiedValues}
 use borrow.Author.Needs.{needs}
+use Rattle.layout.specs.Layout.{copiedWidths, copiedValues}
 use Rattle.image.proofs.parts.put_copied.Statement.{statement}
 use Rattle.image.proofs.parts.put_copied.Tie as tie
 

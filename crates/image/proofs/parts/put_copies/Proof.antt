@@ -1,6 +1,6 @@
 use native.Mathlib.Omega.{arith}
-use Rattle.image.specs.Layout.{copiesWidths, copiesValues}
 use borrow.Author.Needs.{needs}
+use Rattle.layout.specs.Layout.{copiesWidths, copiesValues}
 use Rattle.image.proofs.parts.put_copies.Statement.{statement}
 use Rattle.image.proofs.parts.put_copies.Tie as tie
 

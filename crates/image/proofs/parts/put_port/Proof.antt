@@ -1,6 +1,6 @@
 use native.Mathlib.Omega.{arith}
-use Rattle.image.specs.Layout.{portWidths, portValues}
 use borrow.Author.Needs.{needs}
+use Rattle.layout.specs.Layout.{portWidths, portValues}
 use Rattle.image.proofs.parts.put_port.Statement.{statement}
 use Rattle.image.proofs.parts.put_port.Tie as tie
 

@@ -2,9 +2,9 @@ use mathlib.Core.Path.{refl, _∙_}
 use mathlib.Core.List.{[], _∷_}
 use native.Mathlib.Omega.{arith}
 use lib.ListN.{drop, replicate}
-use Rattle.image.specs.Bytes.{Bytes}
-use Rattle.image.specs.Layout.{sharedWidths, copiedWidths}
-use Rattle.image.specs.Laws.Digits.{bytes-drop}
+use Rattle.layout.specs.Bytes.{Bytes}
+use Rattle.layout.specs.Layout.{sharedWidths, copiedWidths}
+use Rattle.layout.specs.Laws.Digits.{bytes-drop}
 use Rattle.image.specs.Laws.Reading.{got, got-cut-tail, shared-got}
 use borrow.Author.Needs.{needs}
 use Rattle.image.proofs.parts.shared_at.Statement.{statement}

@@ -1,9 +1,10 @@
 use mathlib.Core.Path.{_∙_}
 use native.Mathlib.Omega.{arith}
 use borrow.Author.Tests.{eq-eqb, ne-eqb}
-use Rattle.model.specs.Table.{freshTable}
-use Rattle.image.specs.Bytes.{sum}
-use Rattle.image.specs.Layout.{headWidths, sharedWidths, portWidths, copiedWidths, copiesWidths, bodies, size, sharedPlace, portPlace}
+use borrow.Author.Needs.{needs}
+use Rattle.model.specs.Table.{room, freshTable}
+use Rattle.layout.specs.Bytes.{sum}
+use Rattle.layout.specs.Layout.{headWidths, sharedWidths, portWidths, copiedWidths, copiesWidths, bodies, size, sharedPlace, portPlace}
 use Rattle.image.specs.Laws.Reading.{sharedIn, ports-fit, positive}
 use Rattle.image.proofs.parts.shared_in.Statement.{statement}
 use Rattle.image.proofs.parts.shared_in.Tie as tie
@@ -12,8 +13,12 @@ returns : tie.Need-returns
 unfolding sharedIn freshTable
 returns c = rw (eq-eqb _ _ (c .if1 .taken))
 
+cast-port-place : tie.Need-cast-port-place
+unfolding room
+cast-port-place c = omega (arith, c .before .before .pre (positive _ (c .if1 .left)), ports-fit (c .before .before .args .bytes .now) .0)
+
 port-place-requires : tie.Need-port-place-requires
-port-place-requires c κs = rw (c .before .before .pre (positive _ (c .if1 .left))) (ports-fit _ .0)
+port-place-requires c κs = search needs
 
 shared-at-requires : tie.Need-shared-at-requires
 unfolding sum headWidths sharedWidths portWidths copiedWidths copiesWidths bodies size sharedPlace portPlace
@@ -30,4 +35,4 @@ returns-2 c =
     c .shared-at .ensures ∙ rw (c .before .port-place .ensures, ne-eqb _ _ (c .before .before .if1 .left))
 
 pub shared-in-spec : {M : Type 1} → statement M
-shared-in-spec = tie.close (tie.spec returns port-place-requires shared-at-requires returns-2)
+shared-in-spec = tie.close (tie.spec returns cast-port-place port-place-requires shared-at-requires returns-2)

@@ -5,8 +5,8 @@ use native.Mathlib.Omega.{arith}
 use borrow.Author.Needs.{needs}
 use lib.ListN.{length}
 use Rattle.model.specs.Table.{room}
-use Rattle.image.specs.Bytes.{sum}
-use Rattle.image.specs.Layout.{portWidths, copiesWidths, portPlace, copiesPlace}
+use Rattle.layout.specs.Bytes.{sum}
+use Rattle.layout.specs.Layout.{portWidths, copiesWidths, portPlace, copiesPlace}
 use Rattle.image.specs.Laws.Reading.{portsIn, Reading, ports-fit, ports-there, read-start, read-turn, read-end}
 use Rattle.image.proofs.reader.filled.Statement.{statement}
 use Rattle.image.proofs.reader.filled.Tie as tie
@@ -44,14 +44,26 @@ loop-holds c =
     let s = c .before .before .before .before in
     rw (c .before .before .no-port .ensures, c .before .no-copies .ensures) (read-start (s .args .bytes .now) (s .args .d) (c .shared-in .result) (c .shared-in .ensures))
 
+cast-port-place : tie.Need-cast-port-place Inv-loop μ-loop
+unfolding room
+cast-port-place c = omega (arith, below c, c .loop-test .taken)
+
 port-place-requires : tie.Need-port-place-requires Inv-loop μ-loop
-port-place-requires c κs = omega (arith, below c, c .loop-test .taken)
+port-place-requires c κs = search needs
 
 port-at-requires : tie.Need-port-at-requires Inv-loop μ-loop
 port-at-requires c κs = rw (c .port-place .ensures) (there (c .before) .0)
 
+cast-copies-place : tie.Need-cast-copies-place Inv-loop μ-loop
+unfolding room
+cast-copies-place c = omega (arith, below (c .before .before))
+
+cast-copies-place-2 : tie.Need-cast-copies-place-2 Inv-loop μ-loop
+unfolding room
+cast-copies-place-2 c = omega (arith, below (c .before .before), c .before .before .loop-test .taken)
+
 copies-place-requires : tie.Need-copies-place-requires Inv-loop μ-loop
-copies-place-requires c κs = (below (c .before .before), omega (arith, below (c .before .before), c .before .before .loop-test .taken))
+copies-place-requires c κs = search needs
 
 copies-at-requires : tie.Need-copies-at-requires Inv-loop μ-loop
 copies-at-requires c κs = rw (c .copies-place .ensures) (there (c .before .before .before) .1)
@@ -104,8 +116,11 @@ filled-spec =
     no-copies-requires
     shared-in-requires
     loop-holds
+    cast-port-place
     port-place-requires
     port-at-requires
+    cast-copies-place
+    cast-copies-place-2
     copies-place-requires
     copies-at-requires
     mul-p

@@ -9,8 +9,8 @@ use lib.ListN.{length}
 use Rattle.model.specs.Table.{room}
 use Rattle.model.specs.Good.{everyBelow, placeGood, good}
 use Rattle.rules.specs.Check.{turn}
-use Rattle.image.specs.Bytes.{sum}
-use Rattle.image.specs.Layout.{portWidths, copiesWidths, portPlace, copiesPlace}
+use Rattle.layout.specs.Bytes.{sum}
+use Rattle.layout.specs.Layout.{portWidths, copiesWidths, portPlace, copiesPlace}
 use Rattle.image.specs.Image.{held}
 use Rattle.image.specs.Laws.Reading.{ports-fit, ports-there, positive}
 use Rattle.image.specs.Laws.Sound.{soundIn, port-below, copies-below, shared-held, shared-held-good, place-held, good-held}
@@ -67,14 +67,26 @@ loop-holds : tie.Need-loop-holds Inv-loop μ-loop
 unfolding everyBelow
 loop-holds c = (omega arith, sym (and-true _))
 
+cast-port-place : tie.Need-cast-port-place Inv-loop μ-loop
+unfolding room
+cast-port-place c = omega (arith, small (c .before), c .loop-test .taken)
+
 port-place-requires : tie.Need-port-place-requires Inv-loop μ-loop
-port-place-requires c κs = omega (arith, small (c .before), c .loop-test .taken)
+port-place-requires c κs = search needs
 
 port-at-requires : tie.Need-port-at-requires Inv-loop μ-loop
 port-at-requires c κs = rw (c .port-place .ensures) (there (c .before) .0)
 
+cast-copies-place : tie.Need-cast-copies-place Inv-loop μ-loop
+unfolding room
+cast-copies-place c = omega (arith, small (c .before .before .before))
+
+cast-copies-place-2 : tie.Need-cast-copies-place-2 Inv-loop μ-loop
+unfolding room
+cast-copies-place-2 c = omega (arith, small (c .before .before .before), c .before .before .loop-test .taken)
+
 copies-place-requires : tie.Need-copies-place-requires Inv-loop μ-loop
-copies-place-requires c κs = (small (c .before .before .before), omega (arith, small (c .before .before .before), c .before .before .loop-test .taken))
+copies-place-requires c κs = search needs
 
 copies-at-requires : tie.Need-copies-at-requires Inv-loop μ-loop
 copies-at-requires c κs = rw (c .copies-place .ensures) (there (c .before .before .before) .1)
@@ -131,8 +143,11 @@ sound-in-spec =
     made-in-requires
     shared-good-requires
     loop-holds
+    cast-port-place
     port-place-requires
     port-at-requires
+    cast-copies-place
+    cast-copies-place-2
     copies-place-requires
     copies-at-requires
     made-in-requires-2

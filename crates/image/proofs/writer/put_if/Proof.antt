@@ -14,10 +14,10 @@ use Rattle.model.specs.declared.Table.{Table}
 use Rattle.model.specs.Table.{room, Sized, noPort, noCopies, portAt}
 use Rattle.model.specs.Good.{placeGood, everyBelow}
 use Rattle.rules.specs.Check.{place-turn, turn}
-use Rattle.image.specs.Bytes.{sum, pack}
-use Rattle.image.specs.Layout.{headWidths, sharedWidths, portWidths, copiedWidths, copiesWidths, portValues, copiedValues, copiesValues, bodies, size}
+use Rattle.layout.specs.Bytes.{sum, pack}
+use Rattle.layout.specs.Layout.{headWidths, sharedWidths, portWidths, copiedWidths, copiesWidths, portValues, copiedValues, copiesValues, bodies, size}
+use Rattle.layout.specs.Laws.Records.{length-pack}
 use Rattle.image.specs.Image.{encode, written, roomAfter}
-use Rattle.image.specs.Laws.Records.{length-pack}
 use Rattle.image.specs.Laws.Writing.{Writing, wrote, then, write-start, record-fits, rows, row-fits, row-turn, row-end, length-encode, begun, answer-short, answer-done}
 use Rattle.image.specs.Laws.Checked.{passes, passed, if-bad, if-failed, if-passed}
 use Rattle.image.proofs.writer.put_if.Statement.{statement}
@@ -223,9 +223,11 @@ returns-2 c =
     let e = if-failed (s .args .check) (s .args .t1) (length (s .args .room .now)) (sym (check-passed (c .before)) ∙ not-true _ (c .if2 .taken)) in
     (rw e, rw e)
 
+cast-size : tie.Need-cast-size Inv-loop μ-loop Inv-loop2 μ-loop2 Inv-loop3 μ-loop3
+cast-size c = omega (arith, c .before .before .before .before .before .before .if1 .left)
+
 size-requires : tie.Need-size-requires Inv-loop μ-loop Inv-loop2 μ-loop2 Inv-loop3 μ-loop3
-unfolding room
-size-requires c κs = c .before .before .before .before .before .before .if1 .left
+size-requires c κs = search needs
 
 returns-3 : tie.Need-returns-3 Inv-loop μ-loop Inv-loop2 μ-loop2 Inv-loop3 μ-loop3
 unfolding room written roomAfter
@@ -362,6 +364,7 @@ put-if-spec =
     loop-less
     loop-again
     returns-2
+    cast-size
     size-requires
     returns-3
     put-start-requires

@@ -1,0 +1,3 @@
+-- Laws of the definitions: nothing here needs to be believed.
+pub mod Digits
+pub mod Records

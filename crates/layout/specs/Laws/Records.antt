@@ -1,0 +1,135 @@
+-- Laws of records of any widths: what is packed is unpacked, and what is unpacked is packed again.
+use mathlib.Core.Path.{_≡_, refl, sym, ap, _∙_}
+use mathlib.Core.List.{List, [], _∷_, _++_, append-assoc}
+use Prim.Native.Nat.{ℕ, zero, suc, _+_, _*_, _^_, _≤_, _<_}
+use native.Mathlib.Nat.{zero-mul, suc-mul, add-comm, mod-eq-of-lt}
+use native.Mathlib.Numerals.{add-one}
+use native.Mathlib.Omega.{arith}
+use lib.ListN.{length, getD, take, drop, length-append, length-drop}
+use lib.Seq.{take-at, drop-at, take-add, length-take-le, getD-drop, drop-drop}
+use Rattle.layout.specs.Bytes.{Bytes, little, value, sum, pack, unpack, packs, unpacks, cut}
+use Rattle.layout.specs.Laws.Digits.{bytes-nil, bytes-append, bytes-drop, bytes-take, length-little, little-bytes, value-little, little-value, value-fits}
+
+-- there is a value for every width, and it fits
+abbrev pub Fits : List ℕ → List ℕ → Type 0
+Fits [] [] = Prim.Unit {0}
+Fits [] (v ∷ vs) = ⊥
+Fits (w ∷ ws) [] = ⊥
+Fits (w ∷ ws) (v ∷ vs) = (v < 256 ^ w) × Fits ws vs
+
+pub length-pack : (ws vs : List ℕ) → length (pack ws vs) ≡ sum ws
+unfolding pack sum
+length-pack [] vs = refl
+length-pack (w ∷ ws) vs = rw (length-append (little w (getD vs 0 0)) (pack ws (drop 1 vs)), length-little w (getD vs 0 0), length-pack ws (drop 1 vs))
+
+pub pack-bytes : (ws vs : List ℕ) → Bytes (pack ws vs)
+unfolding pack
+pack-bytes [] vs = bytes-nil
+pack-bytes (w ∷ ws) vs = bytes-append (little w (getD vs 0 0)) (pack ws (drop 1 vs)) (little-bytes w (getD vs 0 0)) (pack-bytes ws (drop 1 vs))
+
+pub length-unpack : (ws bs : List ℕ) → length (unpack ws bs) ≡ length ws
+unfolding unpack
+length-unpack [] bs = refl
+length-unpack (w ∷ ws) bs = ap suc (length-unpack ws (drop w bs))
+
+pub unpack-pack : (ws vs rest : List ℕ) → Fits ws vs → unpack ws (pack ws vs ++ rest) ≡ vs
+unfolding pack unpack
+unpack-pack [] [] rest f = refl
+unpack-pack [] (v ∷ vs) rest f = absurd f
+unpack-pack (w ∷ ws) [] rest f = absurd f
+unpack-pack (w ∷ ws) (v ∷ vs) rest f =
+    rw (
+      append-assoc (little w v) (pack ws vs) rest,
+      take-at (little w v) (pack ws vs ++ rest) w (length-little w v),
+      drop-at (little w v) (pack ws vs ++ rest) w (length-little w v),
+      value-little w v (f .0),
+      unpack-pack ws vs rest (f .1),
+    )
+
+pub pack-unpack : (ws bs : List ℕ) → Bytes bs → sum ws ≤ length bs → pack ws (unpack ws bs) ≡ take (sum ws) bs
+unfolding pack unpack sum
+pack-unpack [] bs f h = refl
+pack-unpack (w ∷ ws) bs f h =
+    let e : little w (value (take w bs)) ≡ take w bs =
+    rw (length-take-le w bs (omega arith)) at (little-value (take w bs) (bytes-take w bs f)) in
+    rw (e, pack-unpack ws (drop w bs) (bytes-drop w bs f) (rw (length-drop w bs) (omega arith))) (sym (take-add w (sum ws) bs))
+
+-- every value of a record fits its width
+pub unpack-fits : (ws bs : List ℕ) → Bytes bs → Fits ws (unpack ws bs)
+unfolding unpack
+unpack-fits [] bs f = tt
+unpack-fits (w ∷ ws) bs f = (value-fits w bs f, unpack-fits ws (drop w bs) (bytes-drop w bs f))
+
+-- values that fit their widths are not changed by cutting
+pub cut-fits : (i : ℕ) (ws vs : List ℕ) → Fits ws (drop i vs) → cut i ws vs ≡ drop i vs
+cut-fits i [] vs f = go (drop i vs) f
+  where
+    go : (l : List ℕ) → Fits [] l → [] ≡ l
+    go [] f = refl
+    go (x ∷ l) f = absurd f
+cut-fits i (w ∷ ws) vs f = go (drop i vs) refl f (cut-fits (suc i) ws vs)
+  where
+    go : (l : List ℕ) → drop i vs ≡ l → Fits (w ∷ ws) l → (Fits ws (drop (suc i) vs) → cut (suc i) ws vs ≡ drop (suc i) vs)
+        → cut i (w ∷ ws) vs ≡ drop i vs
+    go [] e f g = absurd f
+    go (x ∷ l) e f g =
+        let z : i + 0 ≡ i = omega arith in
+        let h : getD vs i 0 ≡ x = rw z at (sym (getD-drop i vs 0 0) ∙ ap (λ (k : List ℕ). getD k 0 0) e) in
+        let r : drop (suc i) vs ≡ l = rw (add-one i) at (sym (drop-drop 1 i vs) ∙ ap (λ (k : List ℕ). drop 1 k) e) in
+        rw (e, h, mod-eq-of-lt (f .0), g (rw r (f .1)), r)
+
+-- many records
+abbrev pub AllFit : List ℕ → List (List ℕ) → Type 0
+AllFit ws [] = Prim.Unit {0}
+AllFit ws (vs ∷ vss) = Fits ws vs × AllFit ws vss
+
+pub length-packs : (ws : List ℕ) (vss : List (List ℕ)) → length (packs ws vss) ≡ length vss * sum ws
+unfolding packs
+length-packs ws [] = sym (zero-mul (sum ws))
+length-packs ws (vs ∷ vss) =
+    length-append (pack ws vs) (packs ws vss)
+    ∙ rw (length-pack ws vs, length-packs ws vss, suc-mul (length vss) (sum ws)) (add-comm (sum ws) _)
+
+pub packs-bytes : (ws : List ℕ) (vss : List (List ℕ)) → Bytes (packs ws vss)
+unfolding packs
+packs-bytes ws [] = bytes-nil
+packs-bytes ws (vs ∷ vss) = bytes-append (pack ws vs) (packs ws vss) (pack-bytes ws vs) (packs-bytes ws vss)
+
+pub unpacks-packs : (ws : List ℕ) (vss : List (List ℕ)) (rest : List ℕ) → AllFit ws vss → unpacks ws (length vss) (packs ws vss ++ rest) ≡ vss
+unfolding packs unpacks
+unpacks-packs ws [] rest f = refl
+unpacks-packs ws (vs ∷ vss) rest f =
+    rw (
+      append-assoc (pack ws vs) (packs ws vss) rest,
+      unpack-pack ws vs (packs ws vss ++ rest) (f .0),
+      drop-at (pack ws vs) (packs ws vss ++ rest) (sum ws) (length-pack ws vs),
+      unpacks-packs ws vss rest (f .1),
+    )
+
+pub packs-unpacks : (ws : List ℕ) (n : ℕ) (bs : List ℕ) → Bytes bs → n * sum ws ≤ length bs → packs ws (unpacks ws n bs) ≡ take (n * sum ws) bs
+unfolding packs unpacks
+packs-unpacks ws zero bs f h = rw (zero-mul (sum ws))
+packs-unpacks ws (suc n) bs f h =
+    let e : suc n * sum ws ≡ sum ws + n * sum ws = suc-mul n (sum ws) ∙ add-comm (n * sum ws) (sum ws) in
+    let k : sum ws + n * sum ws ≤ length bs = rw e at h in
+    rw (
+      e,
+      pack-unpack ws bs f (omega arith),
+      packs-unpacks ws n (drop (sum ws) bs) (bytes-drop (sum ws) bs f) (rw (length-drop (sum ws) bs) (omega arith)),
+    )
+    (sym (take-add (sum ws) (n * sum ws) bs))
+
+pub length-unpacks : (ws : List ℕ) (n : ℕ) (bs : List ℕ) → length (unpacks ws n bs) ≡ n
+unfolding unpacks
+length-unpacks ws zero bs = refl
+length-unpacks ws (suc n) bs = ap suc (length-unpacks ws n (drop (sum ws) bs))
+
+-- one record more
+pub unpacks-more : (ws : List ℕ) (n : ℕ) (bs : List ℕ) → unpacks ws (suc n) bs ≡ unpacks ws n bs ++ (unpack ws (drop (n * sum ws) bs) ∷ [])
+unfolding unpacks
+unpacks-more ws zero bs = rw (zero-mul (sum ws))
+unpacks-more ws (suc n) bs =
+    let e : sum ws + n * sum ws ≡ suc n * sum ws = add-comm (sum ws) (n * sum ws) ∙ sym (suc-mul n (sum ws)) in
+    ap (λ (l : List (List ℕ)). unpack ws bs ∷ l)
+    (unpacks-more ws n (drop (sum ws) bs)
+    ∙ rw (drop-drop (n * sum ws) (sum ws) bs, e))

@@ -1,0 +1,45 @@
+-- Two results that meet the promise of a function of this crate are equal: each promise gives one value at every argument.
+use mathlib.Core.Path.{_≡_}
+use mathlib.Core.List.{List, _∷_}
+use Prim.Native.Nat.{ℕ}
+use lib.ListN.{getD, drop}
+use Rattle.model.specs.declared.Port.{Port}
+use Rattle.model.specs.declared.Copies.{Copies}
+use Rattle.model.specs.declared.Shared.{Shared}
+use Rattle.model.specs.Statements.{one}
+use Rattle.layout.specs.Bytes.{cut}
+use Rattle.layout.specs.Layout.{sharedWidths, portWidths, sharedValues, portValues, copiedValues, copiesValues, sharedOf, portOf, copiesOf, headValues, portPlace, copiesPlace, size}
+
+pub shared-values-one : (x : Shared) (r s : List ℕ) → r ≡ sharedValues x → s ≡ sharedValues x → r ≡ s
+shared-values-one x r s = one
+
+pub port-values-one : (p : Port) (r s : List ℕ) → r ≡ portValues p → s ≡ portValues p → r ≡ s
+port-values-one p r s = one
+
+pub copied-values-one : (x : Shared) (r s : List ℕ) → r ≡ copiedValues x → s ≡ copiedValues x → r ≡ s
+copied-values-one x r s = one
+
+pub copies-values-one : (c : Copies) (r s : List ℕ) → r ≡ copiesValues c → s ≡ copiesValues c → r ≡ s
+copies-values-one c r s = one
+
+pub shared-of-one : (d : ℕ) (v c : List ℕ) (r s : Shared) → r ≡ sharedOf d (getD v 0 0 ∷ cut 1 (drop 1 sharedWidths) v) c
+    → s ≡ sharedOf d (getD v 0 0 ∷ cut 1 (drop 1 sharedWidths) v) c → r ≡ s
+shared-of-one d v c r s = one
+
+pub port-of-one : (v : List ℕ) (r s : Port) → r ≡ portOf (cut 0 portWidths v) → s ≡ portOf (cut 0 portWidths v) → r ≡ s
+port-of-one v r s = one
+
+pub copies-of-one : (v : List ℕ) (r s : Copies) → r ≡ copiesOf v → s ≡ copiesOf v → r ≡ s
+copies-of-one v r s = one
+
+pub head-values-one : (d : ℕ) (r s : List ℕ) → r ≡ headValues d → s ≡ headValues d → r ≡ s
+head-values-one d r s = one
+
+pub port-place-one : (k r s : ℕ) → r ≡ portPlace k → s ≡ portPlace k → r ≡ s
+port-place-one k r s = one
+
+pub copies-place-one : (d k r s : ℕ) → r ≡ copiesPlace d k → s ≡ copiesPlace d k → r ≡ s
+copies-place-one d k r s = one
+
+pub size-one : (d r s : ℕ) → r ≡ size d → s ≡ size d → r ≡ s
+size-one d r s = one
