@@ -16,7 +16,7 @@ use Rattle.model.specs.declared.View.{View}
 use Rattle.model.specs.declared.Move.{Move}
 use Rattle.model.specs.declared.Touch.{Touch}
 use Rattle.model.specs.declared.Charge.{Charge}
-use Rattle.model.specs.declared.Left.{Left}
+use Rattle.lock.specs.declared.acts.Left.{Left}
 use Rattle.model.specs.declared.Outcome.{Outcome}
 use Rattle.model.specs.declared.Answer.the-variants.{Done}
 use Rattle.model.specs.Table.{most, noPort, noCopies, portIn, portAt, copiesAt, putPort}

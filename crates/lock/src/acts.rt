@@ -1,7 +1,6 @@
 // What a step leaves, on what it can see: the shared part, its own port, and the port that it touches.
 use crate::steps;
 use model::Copies;
-use model::Left;
 use model::Port;
 use model::Shared;
 use model::Touch;
@@ -11,6 +10,17 @@ ghost use mathlib.Core.Path.{_≡_};
 ghost use mathlib.Core.Bool.{cond};
 ghost use Rattle.model.specs.Step.{withValue};
 ghost use Rattle.lock.specs.Sight.{Sight, viewOn, steppedOn};
+
+// What a step leaves: its port's record, what all share, the copy sets of the port that it touched, whether that port's latest spin is set to 1, and
+// both costs.
+pub struct Left {
+    pub own: Port,
+    pub shared: Shared,
+    pub copies: Copies,
+    pub sets: bool,
+    pub cached: u64,
+    pub distributed: u64,
+}
 
 // The copies of a spin, with none of one that is new.
 fn kept_copies(new: bool, m: u64) -> u64

@@ -53,36 +53,20 @@ callOff = 4
 abbrev pub leave : ℕ
 leave = 5
 
--- the refusals of an event at a port that there is, each exactly when document 01 gives it
-unfoldable pub busy : ℕ → Port → Bool
-busy e p = eqb e enter && not (eqb (p .point) 0)
-
-unfoldable pub worn : ℕ → Port → Bool
-worn e p = ((eqb e enter && eqb (p .point) 0) || (eqb e stepping && eqb (p .point) 4)) && eqb (p .made) most
-
-unfoldable pub notInside : ℕ → Port → Bool
-notInside e p = eqb e leave && not (eqb (p .point) 11)
-
-unfoldable pub idle : ℕ → Port → Bool
-idle e p = (eqb e stepping || eqb e crash || eqb e callOff) && eqb (p .point) 0
-
-unfoldable pub inside : ℕ → Port → Bool
-inside e p = eqb e stepping && eqb (p .point) 11
-
 -- the answer of the first test that passes, or else DONE
 unfoldable pub firstOf : List (Bool × Answer) → Answer
 firstOf [] = Done
 firstOf (r ∷ rs) = cond (r .0) (r .1) (firstOf rs)
 
--- the refusals of an event at a port that there is, lowest first; and what an event answers on a good table
+-- the refusals of an event at a port that there is, lowest first, each with when it is given; and what an event answers on a good table
 unfoldable pub refusals : ℕ → Port → List (Bool × Answer)
 refusals e p =
     (not (leb 1 e && leb e 5), NoSuchEvent)
-    ∷ (busy e p, Busy)
-    ∷ (worn e p, Worn)
-    ∷ (notInside e p, NotInside)
-    ∷ (idle e p, Idle)
-    ∷ (inside e p, Inside)
+    ∷ (eqb e enter && not (eqb (p .point) 0), Busy)
+    ∷ (((eqb e enter && eqb (p .point) 0) || (eqb e stepping && eqb (p .point) 4)) && eqb (p .made) most, Worn)
+    ∷ (eqb e leave && not (eqb (p .point) 11), NotInside)
+    ∷ ((eqb e stepping || eqb e crash || eqb e callOff) && eqb (p .point) 0, Idle)
+    ∷ (eqb e stepping && eqb (p .point) 11, Inside)
     ∷ []
 
 unfoldable pub refusal : Table → ℕ → ℕ → Answer

@@ -122,17 +122,6 @@ pub enum Answer {
     BadImage,
 }
 
-// What a step leaves: its port's record, what all share, the copy sets of the port that it touched, whether that port's latest spin is set to 1, and
-// both costs.
-pub struct Left {
-    pub own: Port,
-    pub shared: Shared,
-    pub copies: Copies,
-    pub sets: bool,
-    pub cached: u64,
-    pub distributed: u64,
-}
-
 // What an event answers: the table after it, the cached and the distributed cost, and the answer.
 pub struct Outcome {
     pub table: Table,

@@ -15,7 +15,7 @@ use Rattle.model.specs.declared.Answer.the-variants.{Done, BadTable, NoS
 use Rattle.model.specs.Table.{room, most, noWork, portAt, putPort}
 use Rattle.model.specs.Good.{good}
 use Rattle.model.specs.Step.{at, withFlag, withWork}
-use Rattle.model.specs.Event.{numberOf, enter, stepping, crash, callOff, leave, busy, worn, notInside, idle, inside, firstOf, refusals, refusal, ordered, stepped, free, carried, eventGood, event}
+use Rattle.model.specs.Event.{numberOf, enter, stepping, crash, callOff, leave, firstOf, refusals, refusal, ordered, stepped, free, carried, eventGood, event}
 use Rattle.model.specs.Run.{Order, order, answered, after}
 use Rattle.model.specs.Laws.Rules.{shared-rules}
 
@@ -86,7 +86,7 @@ Unrefused : ℕ → Port → Type 0
 Unrefused e p = (i : ℕ) → getD (refusals e p) i (false, Done) .0 ≡ false
 
 allowed : (e : ℕ) (p : Port) → Unrefused e p → eqb e stepping ≡ false → Allowed e p
-unfolding Unrefused refusals busy worn notInside idle inside ordered
+unfolding Unrefused refusals ordered
 allowed zero p h n = absurd (true≢false (h 0))
 allowed (suc zero) p h n =
     let idle = not-false (eqb (p .point) 0) (h 1) in
@@ -102,7 +102,7 @@ allowed (suc (suc (suc (suc (suc (suc e)))))) p h n =
 
 steps : (p : Port) → Unrefused stepping p
     → (p .point ≡ 0 → ⊥) × (p .point ≡ 11 → ⊥) × (p .point ≡ 4 → p .made ≡ most → ⊥)
-unfolding Unrefused refusals worn idle inside
+unfolding Unrefused refusals
 steps p h = (eqb-false _ _ (h 4), eqb-false _ _ (h 5), λ q. eqb-false _ _ (rw (eq-eqb (p .point) 4 q) at (h 2)))
 
 -- a step that no refusal stands against is not worn
