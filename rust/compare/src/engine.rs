@@ -19,31 +19,21 @@ pub trait Engine {
 #[derive(Clone, Copy, Debug)]
 pub struct Archive;
 
-// SAFETY of the four calls: pointers and lengths are those of slices that are lent for the call.
 impl Engine for Archive {
     fn fresh(&self, d: u64, room: &mut [u8]) -> u64 {
-        unsafe { sys::yarvelow_fresh(d, room.as_mut_ptr(), room.len()) }
+        sys::fresh(d, room)
     }
 
     fn check(&self, image: &[u8]) -> u64 {
-        unsafe { sys::yarvelow_check(image.as_ptr(), image.len()) }
+        sys::check(image)
     }
 
     fn event(&self, image: &mut [u8], port: u64, event: u64) -> u64 {
-        unsafe { sys::yarvelow_event(image.as_mut_ptr(), image.len(), port, event) }
+        sys::event(image, port, event)
     }
 
     fn run(&self, image: &mut [u8], orders: &[u64], answers: &mut [u64]) -> u64 {
-        unsafe {
-            sys::yarvelow_run(
-                image.as_mut_ptr(),
-                image.len(),
-                orders.as_ptr(),
-                orders.len(),
-                answers.as_mut_ptr(),
-                answers.len(),
-            )
-        }
+        sys::run(image, orders, answers)
     }
 }
 

@@ -28,6 +28,8 @@ mod answer;
 mod lock;
 pub mod sys;
 
+use std::slice;
+
 pub use answer::{Answer, Costs, Refusal};
 pub use lock::{Image, Lock};
 
@@ -85,8 +87,7 @@ pub struct Order {
 /// assert_eq!(fresh(2, &mut room[..73]), Err(Refusal::ShortRoom));
 /// ```
 pub fn fresh(d: u64, room: &mut [u8]) -> Result<usize, Refusal> {
-    // SAFETY: the pointer and the length are those of a slice that is lent for the call.
-    let answer = unsafe { sys::yarvelow_fresh(d, room.as_mut_ptr(), room.len()) };
+    let answer = sys::fresh(d, room);
     done(answer).map(|()| (answer >> 8) as usize)
 }
 
@@ -101,8 +102,7 @@ pub fn fresh(d: u64, room: &mut [u8]) -> Result<usize, Refusal> {
 /// assert_eq!(check(&room), Err(Refusal::BadImage));
 /// ```
 pub fn check(image: &[u8]) -> Result<(), Refusal> {
-    // SAFETY: the pointer and the length are those of a slice that is lent for the call.
-    done(unsafe { sys::yarvelow_check(image.as_ptr(), image.len()) })
+    done(sys::check(image))
 }
 
 /// Carries out an event on an image where it stands, after looking at the image.
@@ -119,10 +119,7 @@ pub fn check(image: &[u8]) -> Result<(), Refusal> {
 /// assert_eq!(event(image, 1, Event::Step), Ok(Costs { cached: 1, distributed: 0 }));
 /// ```
 pub fn event(image: &mut [u8], port: u64, event: Event) -> Result<Costs, Refusal> {
-    // SAFETY: the pointer and the length are those of a slice that is lent for the call.
-    let answer =
-        unsafe { sys::yarvelow_event(image.as_mut_ptr(), image.len(), port, event as u64) };
-    Answer::packed(answer).result()
+    Answer::packed(sys::event(image, port, event as u64)).result()
 }
 
 /// Carries out events one after the other on an image, with one look at it: much faster than as many calls of [`event`],
@@ -141,17 +138,14 @@ pub fn event(image: &mut [u8], port: u64, event: Event) -> Result<Costs, Refusal
 /// assert_eq!(answers[2].result(), Err(Refusal::NotInside));
 /// ```
 pub fn run(image: &mut [u8], orders: &[Order], answers: &mut [Answer]) -> Result<(), Refusal> {
-    // SAFETY: the pointers and lengths are those of slices that are lent for the call; an order is two numbers of 64 bits, an answer is one.
-    done(unsafe {
-        sys::yarvelow_run(
-            image.as_mut_ptr(),
-            image.len(),
-            orders.as_ptr().cast(),
-            2 * orders.len(),
-            answers.as_mut_ptr().cast(),
-            answers.len(),
+    // SAFETY: an order is two numbers of 64 bits and an answer is one, as their `repr` has it, and both lists are lent for the call.
+    let (numbers, places) = unsafe {
+        (
+            slice::from_raw_parts(orders.as_ptr().cast(), 2 * orders.len()),
+            slice::from_raw_parts_mut(answers.as_mut_ptr().cast(), answers.len()),
         )
-    })
+    };
+    done(sys::run(image, numbers, places))
 }
 
 /// What the number in an answer says.

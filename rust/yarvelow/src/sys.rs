@@ -1,4 +1,4 @@
-//! The archive's four functions as they are. `include/yarvelow.h` says what each does; [`crate`] has safe ones.
+//! The archive's four functions as they are, and over slices with the numbers as they come. `include/yarvelow.h` says what each does.
 
 extern "C" {
     /// Writes the image of a fresh table: number + 256 * the image's length.
@@ -16,4 +16,35 @@ extern "C" {
         answers: *mut u64,
         answers_length: usize,
     ) -> u64;
+}
+
+// SAFETY of the four calls: pointers and lengths are those of slices that are lent for the call.
+
+/// `yarvelow_fresh` over a slice.
+pub fn fresh(d: u64, room: &mut [u8]) -> u64 {
+    unsafe { yarvelow_fresh(d, room.as_mut_ptr(), room.len()) }
+}
+
+/// `yarvelow_check` over a slice.
+pub fn check(image: &[u8]) -> u64 {
+    unsafe { yarvelow_check(image.as_ptr(), image.len()) }
+}
+
+/// `yarvelow_event` over a slice.
+pub fn event(image: &mut [u8], port: u64, event: u64) -> u64 {
+    unsafe { yarvelow_event(image.as_mut_ptr(), image.len(), port, event) }
+}
+
+/// `yarvelow_run` over slices.
+pub fn run(image: &mut [u8], orders: &[u64], answers: &mut [u64]) -> u64 {
+    unsafe {
+        yarvelow_run(
+            image.as_mut_ptr(),
+            image.len(),
+            orders.as_ptr(),
+            orders.len(),
+            answers.as_mut_ptr(),
+            answers.len(),
+        )
+    }
 }

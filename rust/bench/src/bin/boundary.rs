@@ -1,51 +1,15 @@
 //! The engine behind its boundary, over the archive of the proved crate `cabi`: images written and read, events and runs on them.
 
 use bench::command;
-use bench::job::{Answers, Job, Task};
+use bench::job::{Answers, Job, Task, Work};
 use bench::stack::{pointer, Probe};
 use reference::{boundary, ROOM};
 use std::process::ExitCode;
 
-// As in include/yarvelow.h, which says what each does.
-extern "C" {
-    fn yarvelow_fresh(d: u64, room: *mut u8, length: usize) -> u64;
-    fn yarvelow_check(image: *const u8, length: usize) -> u64;
-    fn yarvelow_event(image: *mut u8, length: usize, port: u64, event: u64) -> u64;
-    fn yarvelow_run(
-        image: *mut u8,
-        length: usize,
-        orders: *const u64,
-        orders_length: usize,
-        answers: *mut u64,
-        answers_length: usize,
-    ) -> u64;
-}
+#[path = "../../../yarvelow/src/sys.rs"]
+mod sys;
 
-// SAFETY of the four calls: pointers and lengths are those of slices that are lent for the call.
-fn fresh(d: u64, room: &mut [u8]) -> u64 {
-    unsafe { yarvelow_fresh(d, room.as_mut_ptr(), room.len()) }
-}
-
-fn check(image: &[u8]) -> u64 {
-    unsafe { yarvelow_check(image.as_ptr(), image.len()) }
-}
-
-fn event(image: &mut [u8], port: u64, event: u64) -> u64 {
-    unsafe { yarvelow_event(image.as_mut_ptr(), image.len(), port, event) }
-}
-
-fn run(image: &mut [u8], orders: &[u64], answers: &mut [u64]) -> u64 {
-    unsafe {
-        yarvelow_run(
-            image.as_mut_ptr(),
-            image.len(),
-            orders.as_ptr(),
-            orders.len(),
-            answers.as_mut_ptr(),
-            answers.len(),
-        )
-    }
-}
+use sys::{check, event, fresh, run};
 
 // The jobs, each once over the four functions that either side has.
 
@@ -120,36 +84,43 @@ fn all_run(task: &Task, answers: &mut Answers) -> usize {
     pointer()
 }
 
+/// A job at D = 16.
+fn job(name: &'static str, reads: bool, ours: Work, reference: Work) -> Job {
+    Job {
+        name,
+        d: 16,
+        reads,
+        ours,
+        reference,
+    }
+}
+
 fn main() -> ExitCode {
     let jobs = [
-        Job {
-            name: "image-write-16",
-            d: 16,
-            reads: false,
-            ours: |task, answers| write_with(fresh, task, answers),
-            reference: |task, answers| write_with(boundary::fresh, task, answers),
-        },
-        Job {
-            name: "image-read-16",
-            d: 16,
-            reads: true,
-            ours: |task, answers| read_with(check, task, answers),
-            reference: |task, answers| read_with(boundary::check, task, answers),
-        },
-        Job {
-            name: "image-event-16",
-            d: 16,
-            reads: false,
-            ours: |task, answers| events_with(event, task, answers),
-            reference: |task, answers| events_with(boundary::event, task, answers),
-        },
-        Job {
-            name: "image-run-16",
-            d: 16,
-            reads: false,
-            ours: |task, answers| run_with(run, task, answers),
-            reference: |task, answers| run_with(boundary::run, task, answers),
-        },
+        job(
+            "image-write-16",
+            false,
+            |task, answers| write_with(fresh, task, answers),
+            |task, answers| write_with(boundary::fresh, task, answers),
+        ),
+        job(
+            "image-read-16",
+            true,
+            |task, answers| read_with(check, task, answers),
+            |task, answers| read_with(boundary::check, task, answers),
+        ),
+        job(
+            "image-event-16",
+            false,
+            |task, answers| events_with(event, task, answers),
+            |task, answers| events_with(boundary::event, task, answers),
+        ),
+        job(
+            "image-run-16",
+            false,
+            |task, answers| run_with(run, task, answers),
+            |task, answers| run_with(boundary::run, task, answers),
+        ),
     ];
     let functions = [
         ("yarvelow_fresh", all_fresh as Probe),

@@ -5,30 +5,21 @@ use bench::job::{packed, Answers, Job, Task};
 use bench::stack::pointer;
 use std::process::ExitCode;
 
+/// Orders from the fresh table of `d` ports: `d`, the orders and how many numbers they are, the places for answers and how many there are.
+type Call = unsafe extern "C" fn(u64, *const u64, usize, *mut u64, usize) -> u64;
+
 extern "C" {
-    /// From the fresh table of `d` ports, each order by an event of its own with its own check.
-    fn bench_events(
-        d: u64,
-        orders: *const u64,
-        orders_length: usize,
-        answers: *mut u64,
-        answers_length: usize,
-    ) -> u64;
+    /// Each order by an event of its own with its own check.
+    fn bench_events(d: u64, orders: *const u64, pairs: usize, answers: *mut u64, n: usize) -> u64;
     /// The same orders in one run with one check.
-    fn bench_run(
-        d: u64,
-        orders: *const u64,
-        orders_length: usize,
-        answers: *mut u64,
-        answers_length: usize,
-    ) -> u64;
+    fn bench_run(d: u64, orders: *const u64, pairs: usize, answers: *mut u64, n: usize) -> u64;
 }
 
-// SAFETY of both calls: pointers and lengths are those of slices that are lent for the call.
-fn events(task: &Task, answers: &mut Answers) {
+fn carried(call: Call, task: &Task, answers: &mut Answers) {
     let (orders, numbers) = (&task.orders, &mut answers.numbers);
+    // SAFETY: pointers and lengths are those of slices that are lent for the call.
     unsafe {
-        bench_events(
+        call(
             task.d,
             orders.as_ptr(),
             orders.len(),
@@ -36,19 +27,14 @@ fn events(task: &Task, answers: &mut Answers) {
             numbers.len(),
         );
     }
+}
+
+fn events(task: &Task, answers: &mut Answers) {
+    carried(bench_events, task, answers);
 }
 
 fn run(task: &Task, answers: &mut Answers) {
-    let (orders, numbers) = (&task.orders, &mut answers.numbers);
-    unsafe {
-        bench_run(
-            task.d,
-            orders.as_ptr(),
-            orders.len(),
-            numbers.as_mut_ptr(),
-            numbers.len(),
-        );
-    }
+    carried(bench_run, task, answers);
 }
 
 fn reference_events(task: &Task, answers: &mut Answers) {
