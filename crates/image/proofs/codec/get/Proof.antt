@@ -29,26 +29,11 @@ got c =
 loop-holds : tie.Need-loop-holds Inv-loop μ-loop
 loop-holds c = (omega arith, get-start _ _ _ (c .before .pre .0))
 
-sub-j : tie.Need-sub-j Inv-loop μ-loop
-sub-j c = search needs
-
-add-wide : tie.Need-add-wide Inv-loop μ-loop
-add-wide c = search needs
-
-shared-slice-read-wide : tie.Need-shared-slice-read-wide Inv-loop μ-loop
-shared-slice-read-wide c = search needs
-
-wide-requires : tie.Need-wide-requires Inv-loop μ-loop
-wide-requires c κs = search needs
-
 mul-x : tie.Need-mul-x Inv-loop μ-loop
 mul-x c = record { fits = omega (arith, got c .1) }
 
 add-x : tie.Need-add-x Inv-loop μ-loop
 add-x c = record { fits = omega (arith, got c .1, c .wide .ensures) }
-
-loop-less : tie.Need-loop-less Inv-loop μ-loop
-loop-less c = search needs
 
 loop-again : tie.Need-loop-again Inv-loop μ-loop
 loop-again c = (omega arith, rw (c .wide .ensures) (got c .0))
@@ -65,12 +50,12 @@ get-spec =
     Inv-loop
     μ-loop
     loop-holds
-    sub-j
-    add-wide
-    shared-slice-read-wide
-    wide-requires
+    (λ c. search needs)
+    (λ c. search needs)
+    (λ c. search needs)
+    (λ c κs. search needs)
     mul-x
     add-x
-    loop-less
+    (λ c. search needs)
     loop-again
     returns)

@@ -25,17 +25,8 @@ fits c =
 loop-holds : tie.Need-loop-holds Inv-loop μ-loop
 loop-holds c = record { upto = omega arith; place = refl; long = refl; text = refl }
 
-mul-w : tie.Need-mul-w Inv-loop μ-loop
-mul-w c = search needs
-
-shared-slice-read-w : tie.Need-shared-slice-read-w Inv-loop μ-loop
-shared-slice-read-w c = search needs
-
 get-requires : tie.Need-get-requires Inv-loop μ-loop
 get-requires c κs = (fits (c .before), narrow-at (c .before .before .before .before .before .before .args .widths .now) (c .before .before .loop .j) (c .before .before .before .before .before .before .pre .0))
-
-mul-values : tie.Need-mul-values Inv-loop μ-loop
-mul-values c = search needs
 
 slice-write-values : tie.Need-slice-write-values Inv-loop μ-loop
 slice-write-values c =
@@ -45,12 +36,6 @@ slice-write-values c =
 
 add-i : tie.Need-add-i Inv-loop μ-loop
 add-i c = omega (arith, fits (c .before .before))
-
-add-j : tie.Need-add-j Inv-loop μ-loop
-add-j c = search needs
-
-loop-less : tie.Need-loop-less Inv-loop μ-loop
-loop-less c = search needs
 
 loop-again : tie.Need-loop-again Inv-loop μ-loop
 loop-again c =
@@ -76,14 +61,14 @@ get-row-spec =
     Inv-loop
     μ-loop
     loop-holds
-    mul-w
-    shared-slice-read-w
+    (λ c. search needs)
+    (λ c. search needs)
     get-requires
-    mul-values
+    (λ c. search needs)
     slice-write-values
     add-i
-    add-j
-    loop-less
+    (λ c. search needs)
+    (λ c. search needs)
     loop-again
     same-length
     returns)

@@ -7,18 +7,9 @@ use borrow.Author.Needs.{needs}
 use Rattle.image.proofs.parts.copies_at.Statement.{statement}
 use Rattle.image.proofs.parts.copies_at.Tie as tie
 
-slice-aggregate-get-row : tie.Need-slice-aggregate-get-row
-slice-aggregate-get-row c = search needs
-
-slice-aggregate-get-row-2 : tie.Need-slice-aggregate-get-row-2
-slice-aggregate-get-row-2 c = search needs
-
 get-row-requires : tie.Need-get-row-requires
 unfolding copiesWidths
 get-row-requires c κs = (refl, omega arith, c .before .before .before .pre)
-
-copies-of-requires : tie.Need-copies-of-requires
-copies-of-requires c κs = search needs
 
 returns : tie.Need-returns
 unfolding copiesWidths
@@ -30,8 +21,8 @@ pub copies-at-spec : {M : Type 1} → statement M
 copies-at-spec =
     tie.close
     (tie.spec
-    slice-aggregate-get-row
-    slice-aggregate-get-row-2
+    (λ c. search needs)
+    (λ c. search needs)
     get-row-requires
-    copies-of-requires
+    (λ c κs. search needs)
     returns)

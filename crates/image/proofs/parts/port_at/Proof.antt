@@ -9,18 +9,9 @@ use borrow.Author.Needs.{needs}
 use Rattle.image.proofs.parts.port_at.Statement.{statement}
 use Rattle.image.proofs.parts.port_at.Tie as tie
 
-slice-aggregate-get-row : tie.Need-slice-aggregate-get-row
-slice-aggregate-get-row c = search needs
-
-slice-aggregate-get-row-2 : tie.Need-slice-aggregate-get-row-2
-slice-aggregate-get-row-2 c = search needs
-
 get-row-requires : tie.Need-get-row-requires
 unfolding portWidths
 get-row-requires c κs = (refl, omega arith, c .before .before .before .pre)
-
-port-of-requires : tie.Need-port-of-requires
-port-of-requires c κs = search needs
 
 returns : tie.Need-returns
 unfolding portWidths
@@ -34,8 +25,8 @@ pub port-at-spec : {M : Type 1} → statement M
 port-at-spec =
     tie.close
     (tie.spec
-    slice-aggregate-get-row
-    slice-aggregate-get-row-2
+    (λ c. search needs)
+    (λ c. search needs)
     get-row-requires
-    port-of-requires
+    (λ c κs. search needs)
     returns)

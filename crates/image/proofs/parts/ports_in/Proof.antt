@@ -19,21 +19,9 @@ head-got c = got headWidths (c .before .before .before .before .before .args .by
 returns : tie.Need-returns
 returns c = too-short _ (c .if1 .taken)
 
-slice-aggregate-get-row : tie.Need-slice-aggregate-get-row
-slice-aggregate-get-row c = search needs
-
-slice-aggregate-get-row-2 : tie.Need-slice-aggregate-get-row-2
-slice-aggregate-get-row-2 c = search needs
-
 get-row-requires : tie.Need-get-row-requires
 unfolding sum
 get-row-requires c κs = (refl, omega arith, omega (arith, c .before .before .if1 .left))
-
-array-read-d : tie.Need-array-read-d
-array-read-d c = search needs
-
-size-good-requires : tie.Need-size-good-requires
-size-good-requires c κs = search needs
 
 returns-2 : tie.Need-returns-2
 returns-2 c = wrong-size _ _ (head-got (c .before .before .before)) (sym (c .before .size-good .ensures) ∙ not-true _ (c .if2 .taken))
@@ -42,23 +30,8 @@ cast-n : tie.Need-cast-n
 unfolding room
 cast-n c = omega (arith, size-fits _ _ (c .before .size-good .ensures) (c .if2 .left))
 
-size-requires : tie.Need-size-requires
-size-requires c κs = search needs
-
 returns-3 : tie.Need-returns-3
 returns-3 c = wrong-length _ _ (head-got (c .before .before .before .before .before)) (λ e. c .if3 .taken (e ∙ sym (c .before .size .ensures)))
-
-head-values-requires : tie.Need-head-values-requires
-head-values-requires c κs = search needs
-
-slice-aggregate-same : tie.Need-slice-aggregate-same
-slice-aggregate-same c = search needs
-
-slice-aggregate-same-2 : tie.Need-slice-aggregate-same-2
-slice-aggregate-same-2 c = search needs
-
-same-requires : tie.Need-same-requires
-same-requires c κs = search needs
 
 returns-4 : tie.Need-returns-4
 returns-4 c =
@@ -76,18 +49,18 @@ ports-in-spec =
     tie.close
     (tie.spec
     returns
-    slice-aggregate-get-row
-    slice-aggregate-get-row-2
+    (λ c. search needs)
+    (λ c. search needs)
     get-row-requires
-    array-read-d
-    size-good-requires
+    (λ c. search needs)
+    (λ c κs. search needs)
     returns-2
     cast-n
-    size-requires
+    (λ c κs. search needs)
     returns-3
-    head-values-requires
-    slice-aggregate-same
-    slice-aggregate-same-2
-    same-requires
+    (λ c κs. search needs)
+    (λ c. search needs)
+    (λ c. search needs)
+    (λ c κs. search needs)
     returns-4
     returns-5)

@@ -12,27 +12,9 @@ cast-head-values : tie.Need-cast-head-values
 unfolding room
 cast-head-values c = omega (arith, c .before .before .pre .0)
 
-head-values-requires : tie.Need-head-values-requires
-head-values-requires c κs = search needs
-
-slice-aggregate-put-row : tie.Need-slice-aggregate-put-row
-slice-aggregate-put-row c = search needs
-
-slice-aggregate-put-row-2 : tie.Need-slice-aggregate-put-row-2
-slice-aggregate-put-row-2 c = search needs
-
 put-row-requires : tie.Need-put-row-requires
 unfolding sum headWidths headValues contents bodies
 put-row-requires c κs = (rw (c .before .before .before .head-values .ensures) (omega arith), omega (arith, c .before .before .before .before .before .before .pre .1))
-
-shared-values-requires : tie.Need-shared-values-requires
-shared-values-requires c κs = search needs
-
-slice-aggregate-put-row-3 : tie.Need-slice-aggregate-put-row-3
-slice-aggregate-put-row-3 c = search needs
-
-slice-aggregate-put-row-4 : tie.Need-slice-aggregate-put-row-4
-slice-aggregate-put-row-4 c = search needs
 
 put-row-requires-2 : tie.Need-put-row-requires-2
 unfolding sum headWidths sharedWidths sharedValues
@@ -42,9 +24,6 @@ put-row-requires-2 c κs =
       rw (c .before .before .before .shared-values .ensures) (omega arith),
       omega (arith, s .pre .1, k .put-row .ensures .0, stored-long (s .args .room .now) (k .put-row .last .0) 0 (pack headWidths (c .before .before .before .before .before .before .before .before .before .before .head-values .result)) (k .put-row .ensures .1)),
     )
-
-same-length : tie.Need-same-length
-same-length c = search needs
 
 returns : tie.Need-returns
 unfolding headWidths sharedWidths
@@ -64,13 +43,13 @@ put-start-spec =
     tie.close
     (tie.spec
     cast-head-values
-    head-values-requires
-    slice-aggregate-put-row
-    slice-aggregate-put-row-2
+    (λ c κs. search needs)
+    (λ c. search needs)
+    (λ c. search needs)
     put-row-requires
-    shared-values-requires
-    slice-aggregate-put-row-3
-    slice-aggregate-put-row-4
+    (λ c κs. search needs)
+    (λ c. search needs)
+    (λ c. search needs)
     put-row-requires-2
-    same-length
+    (λ c. search needs)
     returns)

@@ -10,28 +10,13 @@ use borrow.Author.Needs.{needs}
 use Rattle.image.proofs.parts.shared_at.Statement.{statement}
 use Rattle.image.proofs.parts.shared_at.Tie as tie
 
-slice-aggregate-get-row : tie.Need-slice-aggregate-get-row
-slice-aggregate-get-row c = search needs
-
-slice-aggregate-get-row-2 : tie.Need-slice-aggregate-get-row-2
-slice-aggregate-get-row-2 c = search needs
-
 get-row-requires : tie.Need-get-row-requires
 unfolding sharedWidths
 get-row-requires c κs = (refl, omega arith, c .before .before .before .pre .0)
 
-slice-aggregate-get-row-3 : tie.Need-slice-aggregate-get-row-3
-slice-aggregate-get-row-3 c = search needs
-
-slice-aggregate-get-row-4 : tie.Need-slice-aggregate-get-row-4
-slice-aggregate-get-row-4 c = search needs
-
 get-row-requires-2 : tie.Need-get-row-requires-2
 unfolding copiedWidths
 get-row-requires-2 c κs = (refl, omega arith, c .before .before .before .before .before .before .before .pre .1)
-
-shared-of-requires : tie.Need-shared-of-requires
-shared-of-requires c κs = search needs
 
 returns : tie.Need-returns
 unfolding sharedWidths copiedWidths
@@ -46,11 +31,11 @@ pub shared-at-spec : {M : Type 1} → statement M
 shared-at-spec =
     tie.close
     (tie.spec
-    slice-aggregate-get-row
-    slice-aggregate-get-row-2
+    (λ c. search needs)
+    (λ c. search needs)
     get-row-requires
-    slice-aggregate-get-row-3
-    slice-aggregate-get-row-4
+    (λ c. search needs)
+    (λ c. search needs)
     get-row-requires-2
-    shared-of-requires
+    (λ c κs. search needs)
     returns)

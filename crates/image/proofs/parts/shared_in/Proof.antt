@@ -17,9 +17,6 @@ cast-port-place : tie.Need-cast-port-place
 unfolding room
 cast-port-place c = omega (arith, c .before .before .pre (positive _ (c .if1 .left)), ports-fit (c .before .before .args .bytes .now) .0)
 
-port-place-requires : tie.Need-port-place-requires
-port-place-requires c κs = search needs
-
 shared-at-requires : tie.Need-shared-at-requires
 unfolding sum headWidths sharedWidths portWidths copiedWidths copiesWidths bodies size sharedPlace portPlace
 shared-at-requires c κs =
@@ -35,4 +32,4 @@ returns-2 c =
     c .shared-at .ensures ∙ rw (c .before .port-place .ensures, ne-eqb _ _ (c .before .before .if1 .left))
 
 pub shared-in-spec : {M : Type 1} → statement M
-shared-in-spec = tie.close (tie.spec returns cast-port-place port-place-requires shared-at-requires returns-2)
+shared-in-spec = tie.close (tie.spec returns cast-port-place (λ c κs. search needs) shared-at-requires returns-2)

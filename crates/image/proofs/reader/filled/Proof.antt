@@ -29,12 +29,6 @@ there : (c : tie.In-loop Inv-loop μ-loop)
     × (copiesPlace (c .before .before .before .before .before .before .args .d) (c .before .loop .i) + sum copiesWidths ≤ length (c .before .before .before .before .before .before .args .bytes .now))
 there c = ports-there _ _ _ (image-d c) (c .loop-test .taken)
 
-no-port-requires : tie.Need-no-port-requires Inv-loop μ-loop
-no-port-requires c κs = search needs
-
-no-copies-requires : tie.Need-no-copies-requires Inv-loop μ-loop
-no-copies-requires c κs = search needs
-
 shared-in-requires : tie.Need-shared-in-requires Inv-loop μ-loop
 shared-in-requires c κs = c .before .before .before .pre
 
@@ -48,9 +42,6 @@ cast-port-place : tie.Need-cast-port-place Inv-loop μ-loop
 unfolding room
 cast-port-place c = omega (arith, below c, c .loop-test .taken)
 
-port-place-requires : tie.Need-port-place-requires Inv-loop μ-loop
-port-place-requires c κs = search needs
-
 port-at-requires : tie.Need-port-at-requires Inv-loop μ-loop
 port-at-requires c κs = rw (c .port-place .ensures) (there (c .before) .0)
 
@@ -61,9 +52,6 @@ cast-copies-place c = omega (arith, below (c .before .before))
 cast-copies-place-2 : tie.Need-cast-copies-place-2 Inv-loop μ-loop
 unfolding room
 cast-copies-place-2 c = omega (arith, below (c .before .before), c .before .before .loop-test .taken)
-
-copies-place-requires : tie.Need-copies-place-requires Inv-loop μ-loop
-copies-place-requires c κs = search needs
 
 copies-at-requires : tie.Need-copies-at-requires Inv-loop μ-loop
 copies-at-requires c κs = rw (c .copies-place .ensures) (there (c .before .before .before) .1)
@@ -112,16 +100,16 @@ filled-spec =
     (tie.spec
     Inv-loop
     μ-loop
-    no-port-requires
-    no-copies-requires
+    (λ c κs. search needs)
+    (λ c κs. search needs)
     shared-in-requires
     loop-holds
     cast-port-place
-    port-place-requires
+    (λ c κs. search needs)
     port-at-requires
     cast-copies-place
     cast-copies-place-2
-    copies-place-requires
+    (λ c κs. search needs)
     copies-at-requires
     mul-p
     element-set-from-p

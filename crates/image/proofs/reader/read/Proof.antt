@@ -5,15 +5,6 @@ use borrow.Author.Needs.{needs}
 use Rattle.image.proofs.reader.read.Statement.{statement}
 use Rattle.image.proofs.reader.read.Tie as tie
 
-ports-in-requires : tie.Need-ports-in-requires
-ports-in-requires c κs = search needs
-
-sound-in-requires : tie.Need-sound-in-requires
-sound-in-requires c κs = search needs
-
-answer-in-requires : tie.Need-answer-in-requires
-answer-in-requires c κs = search needs
-
 filled-requires : tie.Need-filled-requires
 filled-requires c κs = λ h. c .before .sound-in .ensures ∙ sound-some _ _ (rw (c .before .sound-in .ensures) at h) ∙ c .before .before .ports-in .ensures
 
@@ -23,4 +14,4 @@ returns c = c .filled .ensures ∙ rw (c .before .answer-in .ensures, c .before 
 pub read-spec : {M : Type 1} → statement M
 read-spec =
     tie.close
-    (tie.spec ports-in-requires sound-in-requires answer-in-requires filled-requires returns)
+    (tie.spec (λ c κs. search needs) (λ c κs. search needs) (λ c κs. search needs) filled-requires returns)

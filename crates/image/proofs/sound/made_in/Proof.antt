@@ -7,9 +7,6 @@ use borrow.Author.Needs.{needs}
 use Rattle.image.proofs.sound.made_in.Statement.{statement}
 use Rattle.image.proofs.sound.made_in.Tie as tie
 
-wide-requires : tie.Need-wide-requires
-wide-requires c κs = search needs
-
 returns : tie.Need-returns
 returns c = sym (ap (λ (p : Port). p .made) (port-above (c .before .before .before .args .d) (c .before .before .before .args .bytes .now) _ (omega (arith, c .if1 .taken, c .before .wide .ensures))))
 
@@ -32,4 +29,4 @@ returns-2 c =
 
 pub made-in-spec : {M : Type 1} → statement M
 made-in-spec =
-    tie.close (tie.spec wide-requires returns port-place-requires port-at-requires returns-2)
+    tie.close (tie.spec (λ c κs. search needs) returns port-place-requires port-at-requires returns-2)

@@ -60,9 +60,6 @@ shared-in-requires c κs = λ h. c .before .before .pre
 made-in-requires : tie.Need-made-in-requires Inv-loop μ-loop
 made-in-requires c κs = c .before .before .before .pre
 
-shared-good-requires : tie.Need-shared-good-requires Inv-loop μ-loop
-shared-good-requires c κs = search needs
-
 loop-holds : tie.Need-loop-holds Inv-loop μ-loop
 unfolding everyBelow
 loop-holds c = (omega arith, sym (and-true _))
@@ -70,9 +67,6 @@ loop-holds c = (omega arith, sym (and-true _))
 cast-port-place : tie.Need-cast-port-place Inv-loop μ-loop
 unfolding room
 cast-port-place c = omega (arith, small (c .before), c .loop-test .taken)
-
-port-place-requires : tie.Need-port-place-requires Inv-loop μ-loop
-port-place-requires c κs = search needs
 
 port-at-requires : tie.Need-port-at-requires Inv-loop μ-loop
 port-at-requires c κs = rw (c .port-place .ensures) (there (c .before) .0)
@@ -85,9 +79,6 @@ cast-copies-place-2 : tie.Need-cast-copies-place-2 Inv-loop μ-loop
 unfolding room
 cast-copies-place-2 c = omega (arith, small (c .before .before .before), c .before .before .loop-test .taken)
 
-copies-place-requires : tie.Need-copies-place-requires Inv-loop μ-loop
-copies-place-requires c κs = search needs
-
 copies-at-requires : tie.Need-copies-at-requires Inv-loop μ-loop
 copies-at-requires c κs = rw (c .copies-place .ensures) (there (c .before .before .before) .1)
 
@@ -96,9 +87,6 @@ made-in-requires-2 c κs = c .before .before .before .before .before .before .be
 
 made-in-requires-3 : tie.Need-made-in-requires-3 Inv-loop μ-loop
 made-in-requires-3 c κs = c .before .before .before .before .before .before .before .before .before .before .before .before .pre
-
-place-good-requires : tie.Need-place-good-requires Inv-loop μ-loop
-place-good-requires c κs = search needs
 
 add-i : tie.Need-add-i Inv-loop μ-loop
 unfolding room
@@ -141,18 +129,18 @@ sound-in-spec =
     returns
     shared-in-requires
     made-in-requires
-    shared-good-requires
+    (λ c κs. search needs)
     loop-holds
     cast-port-place
-    port-place-requires
+    (λ c κs. search needs)
     port-at-requires
     cast-copies-place
     cast-copies-place-2
-    copies-place-requires
+    (λ c κs. search needs)
     copies-at-requires
     made-in-requires-2
     made-in-requires-3
-    place-good-requires
+    (λ c κs. search needs)
     add-i
     loop-less
     loop-again

@@ -226,9 +226,6 @@ returns-2 c =
 cast-size : tie.Need-cast-size Inv-loop μ-loop Inv-loop2 μ-loop2 Inv-loop3 μ-loop3
 cast-size c = omega (arith, c .before .before .before .before .before .before .if1 .left)
 
-size-requires : tie.Need-size-requires Inv-loop μ-loop Inv-loop2 μ-loop2 Inv-loop3 μ-loop3
-size-requires c κs = search needs
-
 returns-3 : tie.Need-returns-3 Inv-loop μ-loop Inv-loop2 μ-loop2 Inv-loop3 μ-loop3
 unfolding room written roomAfter
 returns-3 c =
@@ -365,7 +362,7 @@ put-if-spec =
     loop-again
     returns-2
     cast-size
-    size-requires
+    (λ c κs. search needs)
     returns-3
     put-start-requires
     loop2-holds

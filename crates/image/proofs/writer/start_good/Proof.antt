@@ -3,12 +3,6 @@ use Rattle.image.specs.Laws.Checked.{startGood}
 use Rattle.image.proofs.writer.start_good.Statement.{statement}
 use Rattle.image.proofs.writer.start_good.Tie as tie
 
-size-good-requires : tie.Need-size-good-requires
-size-good-requires c κs = search needs
-
-shared-good-requires : tie.Need-shared-good-requires
-shared-good-requires c κs = search needs
-
 returns : tie.Need-returns
 unfolding startGood
 returns c = rw (c .before .before .if1 .taken, c .before .size-good .ensures, c .shared-good .ensures)
@@ -18,4 +12,4 @@ unfolding startGood
 returns-2 c = rw (c .if1 .left)
 
 pub start-good-spec : {M : Type 1} → statement M
-start-good-spec = tie.close (tie.spec size-good-requires shared-good-requires returns returns-2)
+start-good-spec = tie.close (tie.spec (λ c κs. search needs) (λ c κs. search needs) returns returns-2)

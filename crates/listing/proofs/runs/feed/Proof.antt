@@ -70,20 +70,11 @@ loop-holds c = begins _ _ _
 sub-if1 : tie.Need-sub-if1 Inv-loop μ-loop
 sub-if1 c = omega (arith, c .loop .inv .inside, c .loop .inv .long)
 
-live-requires : tie.Need-live-requires Inv-loop μ-loop
-live-requires c κs = search needs
-
 shared-slice-read-act : tie.Need-shared-slice-read-act Inv-loop μ-loop
 shared-slice-read-act c = tests (c .before) .0
 
-act-requires : tie.Need-act-requires Inv-loop μ-loop
-act-requires c κs = search needs
-
 add-taken : tie.Need-add-taken Inv-loop μ-loop
 add-taken c = omega (arith, tests (c .before .before) .0, fits-input (c .before .before))
-
-enum-known-act : tie.Need-enum-known-act Inv-loop μ-loop
-enum-known-act c = search needs
 
 loop-less : tie.Need-loop-less Inv-loop μ-loop
 loop-less c = omega (arith, tests (c .before .before .before .before .before) .0)
@@ -92,36 +83,12 @@ loop-again : tie.Need-loop-again Inv-loop μ-loop
 unfolding acted actText
 loop-again c = turned (c .before .before .before) _ _ _ (Keep _) (c .before .act2 .given .1) refl put-nothing
 
-enum-known-act-2 : tie.Need-enum-known-act-2 Inv-loop μ-loop
-enum-known-act-2 c = search needs
-
-fresh-requires : tie.Need-fresh-requires Inv-loop μ-loop
-fresh-requires c κs = search needs
-
 loop-less-2 : tie.Need-loop-less-2 Inv-loop μ-loop
 loop-less-2 c = omega (arith, tests (c .before .before .before .before .before .before .before) .0)
 
 loop-again-2 : tie.Need-loop-again-2 Inv-loop μ-loop
 unfolding acted actText
 loop-again-2 c = turned (c .before .before .before .before .before) _ _ _ (Open _) (c .before .before .before .act3 .given .1) (rw (c .before .fresh .ensures)) put-nothing
-
-enum-known-act-3 : tie.Need-enum-known-act-3 Inv-loop μ-loop
-enum-known-act-3 c = search needs
-
-paid-requires : tie.Need-paid-requires Inv-loop μ-loop
-paid-requires c κs = search needs
-
-point-at-requires : tie.Need-point-at-requires Inv-loop μ-loop
-point-at-requires c κs = search needs
-
-row-requires : tie.Need-row-requires Inv-loop μ-loop
-row-requires c κs = search needs
-
-put-row-requires : tie.Need-put-row-requires Inv-loop μ-loop
-put-row-requires c κs = search needs
-
-wrapping-add-u64-requires : tie.Need-wrapping-add-u64-requires Inv-loop μ-loop
-wrapping-add-u64-requires c κs = search needs
 
 loop-less-3 : tie.Need-loop-less-3 Inv-loop μ-loop
 loop-less-3 c = omega (arith, tests (c .before .before .before .before .before .before .before .before .before .before .before .before .before .before) .0)
@@ -132,12 +99,6 @@ loop-again-3 c =
     turned (c .before .before .before .before .before .before .before .before .before .before .before .before) _ _ _ (Order _ _ _) (c .before .before .before .before .before .before .before .before .before .before .act4 .given .1)
     (rw (c .before .before .before .before .before .before .before .before .paid .ensures, c .wrapping-add-u64 .ensures))
     (rw (← (c .before .before .before .before .before .before .before .before .paid .ensures), ← (c .before .before .before .before .before .before .point-at .ensures), ← (c .before .before .before .before .before .row .ensures)) (whole-line (room-left (c .before .before .before .before .before .before .before .before .before .before .before .before .before .before)) (c .before .before .before .put-row .ensures)))
-
-enum-told : tie.Need-enum-told Inv-loop μ-loop
-enum-told c = search needs
-
-put-bad-requires : tie.Need-put-bad-requires Inv-loop μ-loop
-put-bad-requires c κs = search needs
 
 loop-less-4 : tie.Need-loop-less-4 Inv-loop μ-loop
 loop-less-4 c = omega (arith, tests (c .before .before .before .before .before .before .before .before) .0)
@@ -163,27 +124,27 @@ feed-spec =
     μ-loop
     loop-holds
     sub-if1
-    live-requires
+    (λ c κs. search needs)
     shared-slice-read-act
-    act-requires
+    (λ c κs. search needs)
     add-taken
-    enum-known-act
+    (λ c. search needs)
     loop-less
     loop-again
-    enum-known-act-2
-    fresh-requires
+    (λ c. search needs)
+    (λ c κs. search needs)
     loop-less-2
     loop-again-2
-    enum-known-act-3
-    paid-requires
-    point-at-requires
-    row-requires
-    put-row-requires
-    wrapping-add-u64-requires
+    (λ c. search needs)
+    (λ c κs. search needs)
+    (λ c κs. search needs)
+    (λ c κs. search needs)
+    (λ c κs. search needs)
+    (λ c κs. search needs)
     loop-less-3
     loop-again-3
-    enum-told
-    put-bad-requires
+    (λ c. search needs)
+    (λ c κs. search needs)
     loop-less-4
     loop-again-4
     same-length
