@@ -3,7 +3,7 @@ use lock::events;
 use lock::runs;
 use model::Answer;
 ghost use mathlib.Core.Path.{_≡_};
-ghost use Prim.Native.Nat.{ℕ, _+_, _*_, _/_, _≤_, min};
+ghost use Prim.Native.Nat.{_+_, _*_, _/_, _≤_, min};
 ghost use Rattle.model.specs.Event as Event;
 ghost use Rattle.model.specs.Run as Run;
 

@@ -2,31 +2,29 @@
 use mathlib.Core.Path.{_≡_, refl, sym, ap, _∙_}
 use mathlib.Core.Bool.{Bool, true, false, cond}
 use mathlib.Core.List.{List, [], _∷_}
-use Prim.Native.Nat.{ℕ, suc, _+_, _*_, _%_, _≤_, _<_}
+use Prim.Native.Nat.{ℕ, suc, _+_, _*_, _%_, _≤_}
 use native.Mathlib.Omega.{arith}
 use borrow.Author.Tests.{eqb-false, eq-eqb, ne-eqb}
 use lib.Dec.{eqb}
 use lib.ListN.{length}
 use lib.Seq.{sets}
 use Rattle.model.specs.declared.Table.{Table}
-use Rattle.model.specs.declared.Made.{Made}
 use Rattle.model.specs.declared.Outcome.{Outcome}
 use Rattle.model.specs.declared.Answer.{Answer}
 use Rattle.model.specs.declared.Answer.the-variants.{Done, BadTable, NoSuchPort, NoSuchEvent, Busy, Worn, NotInside, Idle, Inside, BadSize, ShortRoom, BadImage}
 use Rattle.model.specs.Table.{room, Sized}
 use Rattle.model.specs.Good.{good}
-use Rattle.model.specs.Event.{numberOf, fresh, free, event}
+use Rattle.model.specs.Event.{numberOf, fresh, event}
 use Rattle.model.specs.Run.{Order, order, after, ran, codeOf, codes, run, runAnswers}
 use Rattle.model.specs.Laws.Cases.{refused-free}
 use Rattle.model.specs.Laws.After.{after-sized, after-d}
 use Rattle.model.specs.Laws.Rules.{shared-rules}
 use Rattle.model.specs.Laws.Kept.{good-after, made-good, ran-sized, ran-d}
-use Rattle.lock.specs.Turns.{free-code}
 use Rattle.lock.specs.Single.{bad-event, code-number}
 use Rattle.layout.specs.Bytes.{Bytes}
 use Rattle.layout.specs.Layout.{size}
 use Rattle.image.specs.declared.Written.{Written}
-use Rattle.image.specs.Image.{isDone, isImage, held, dIn, encode, opened, decode, refused, putAnswer, writeAnswer, written, roomAfter, Puts}
+use Rattle.image.specs.Image.{isDone, isImage, encode, opened, decode, refused, putAnswer, writeAnswer, written, roomAfter, Puts}
 use Rattle.image.specs.Laws.Writing.{length-encode}
 use Rattle.image.specs.Laws.Reading.{sets-whole}
 use Rattle.image.specs.Laws.Promises.{size-is, put-done, opened-encoded, opened-size, opened-sized}

@@ -4,7 +4,7 @@ use image::writer;
 use lock::events;
 use lock::runs;
 ghost use mathlib.Core.Path.{_≡_};
-ghost use Prim.Native.Nat.{_+_, _*_, _≤_, _<_};
+ghost use Prim.Native.Nat.{_+_, _*_};
 ghost use lib.ListN.{length};
 ghost use Rattle.model.specs.Run.{ordersFor};
 ghost use Rattle.cabi.specs.Calls as Calls;

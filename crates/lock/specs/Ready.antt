@@ -1,20 +1,17 @@
 -- What an order at port k may count on, where what it answers before anything is changed is DONE.
-use mathlib.Core.Path.{_≡_, refl, ap, _∙_}
-use mathlib.Core.Bool.{Bool, true, false, cond, _&&_, and-eq-true-iff, and-false}
+use mathlib.Core.Path.{_≡_, refl, ap}
+use mathlib.Core.Bool.{Bool, true, false, _&&_, and-eq-true-iff, and-false}
 use Prim.Native.Nat.{ℕ, suc, _≤_, _<_}
 use native.Mathlib.Omega.{arith}
 use lib.Arith.{lt-of-le-ne}
 use native.Mathlib.Nat.{lt-of-lt-of-le, le-trans}
 use borrow.Author.Tests.{leb-true, leb-false, ltb-true, le-leb}
 use lib.Dec.{leb, ltb}
-use lib.ListN.{getD}
 use Rattle.model.specs.declared.Port.{Port}
 use Rattle.model.specs.declared.Shared.{Shared}
 use Rattle.model.specs.declared.Table.{Table}
-use Rattle.model.specs.declared.View.{View}
 use Rattle.model.specs.declared.Cell.{Cell}
 use Rattle.model.specs.declared.Cell.the-variants.{Nothing, Status, Go, Spin, Active, Lock, CandidateGo, SeenSpin}
-use Rattle.model.specs.declared.Answer.the-variants.{NoSuchPort, BadTable}
 use Rattle.model.specs.Table.{room, most, portAt}
 use Rattle.model.specs.Mask.{within}
 use Rattle.model.specs.Good.{sizeGood}

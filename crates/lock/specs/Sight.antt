@@ -19,7 +19,7 @@ use Rattle.model.specs.declared.Charge.{Charge}
 use Rattle.lock.specs.declared.acts.Left.{Left}
 use Rattle.model.specs.declared.Outcome.{Outcome}
 use Rattle.model.specs.declared.Answer.the-variants.{Done}
-use Rattle.model.specs.Table.{most, noPort, noCopies, portIn, portAt, copiesAt, putPort}
+use Rattle.model.specs.Table.{most, noPort, portIn, portAt, copiesAt, putPort}
 use Rattle.model.specs.Ring.{next}
 use Rattle.model.specs.Laws.Ring.{next-any}
 use Rattle.model.specs.Points.{pointOf, settled}

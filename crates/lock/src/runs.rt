@@ -8,7 +8,7 @@ use model::Table;
 use points::places;
 use rules::good;
 ghost use mathlib.Core.Path.{_≡_};
-ghost use Prim.Native.Nat.{ℕ, _+_, _*_, _<_, min};
+ghost use Prim.Native.Nat.{_+_, _*_, _<_, min};
 ghost use lib.Seq.{sets};
 ghost use Rattle.model.specs.Table.{room};
 ghost use Rattle.model.specs.Run as Run;

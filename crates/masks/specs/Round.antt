@@ -1,5 +1,5 @@
 -- Next as the code finds it, by the count of trailing zeros: the lowest port of the half above o, or else of the whole set; 64 where the set is empty.
-use mathlib.Core.Path.{_≡_, _∙_, sym, ap}
+use mathlib.Core.Path.{_≡_, _∙_, ap}
 use mathlib.Core.Logic.{_⊎_, inl, inr}
 use mathlib.Core.Bool.{cond}
 use Prim.Native.Nat.{ℕ, _+_, _/_, _^_, _<_}

@@ -1,5 +1,5 @@
 -- Remote references (document 01, 'Remote references'): which word each point touches and how, and what that costs in both models.
-use mathlib.Core.Bool.{Bool, true, false, cond, not}
+use mathlib.Core.Bool.{Bool, false, cond, not}
 use Prim.Native.Nat.{ℕ}
 use lib.Dec.{eqb}
 use Rattle.model.specs.declared.Work.{Work}

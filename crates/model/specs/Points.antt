@@ -1,9 +1,9 @@
 -- The points (document 01, 'The table' and 'The steps'): which there are, and where each working value has its place.
-use mathlib.Core.Bool.{Bool, true, false, cond, _&&_, _||_}
+use mathlib.Core.Bool.{Bool, false, cond, _&&_, _||_}
 use mathlib.Core.List.{List, [], _∷_, _++_}
 use Prim.Native.Nat.{ℕ, _+_}
 use lib.Dec.{eqb, leb}
-use lib.ListN.{getD, replicate}
+use lib.ListN.{getD}
 use Rattle.model.specs.declared.Port.{Port}
 use Rattle.model.specs.Table.{work, port}
 

@@ -1,5 +1,5 @@
 -- Runs: orders, each a port and an event of any numbers, carried out one after the other; what the statements of demand 3 count along a run.
-use mathlib.Core.Bool.{Bool, true, false, cond, not, _&&_, _||_}
+use mathlib.Core.Bool.{Bool, true, cond, not, _&&_, _||_}
 use mathlib.Core.List.{List, [], _∷_}
 use Prim.Native.Nat.{ℕ, zero, suc, _+_, _*_, _/_, min}
 use lib.Dec.{eqb}
@@ -9,7 +9,7 @@ use Rattle.model.specs.declared.Table.{Table}
 use Rattle.model.specs.declared.Outcome.{Outcome}
 use Rattle.model.specs.declared.Made.{Made}
 use Rattle.model.specs.declared.Answer.the-variants.{Done, BadTable}
-use Rattle.model.specs.Table.{CS, word, portAt}
+use Rattle.model.specs.Table.{word, portAt}
 use Rattle.model.specs.Mask.{stands}
 use Rattle.model.specs.Points.{oneOf}
 use Rattle.model.specs.Good.{good}

@@ -1,20 +1,22 @@
 -- What is proved of the lock, for a reader who knows the definitions and no proof. A statement stands under a comment that says in words what it means
 -- and which sentence of the demands or of document 01 it is; the line below it names its proof.
 use mathlib.Core.Path.{_≡_, sym, subst, _∙_}
+use mathlib.Core.Logic.{_≢_}
 use mathlib.Core.Bool.{true, false, _||_}
 use mathlib.Core.List.{List, [], _∷_}
-use Prim.Native.Nat.{ℕ, _*_, _≤_, _<_, _^_}
+use Prim.Native.Nat.{ℕ, _-_, _*_, _≤_, _<_, _^_}
 use Rattle.model.specs.declared.Table.{Table}
 use Rattle.model.specs.declared.Outcome.{Outcome}
 use Rattle.model.specs.declared.Made.{Made}
 use Rattle.model.specs.Table.{room, Sized, CS, portAt, freshTable}
-use Rattle.model.specs.Mask.{stands}
+use Rattle.model.specs.Mask.{stands, joined, alone, added}
 use Rattle.model.specs.Ring.{next, distance}
 use Rattle.model.specs.Good.{good}
 use Rattle.model.specs.Event.{numberOf, enter, stepping, crash, free, event, fresh}
 use Rattle.model.specs.Run.{Order, order, after, ran, run, runAnswers, done, stepsAt, passedOver, passageCost, stepless}
 use Rattle.model.specs.Paid.{paidEvent}
-use Rattle.model.specs.Laws.Ring.{next-stands, next-nearest}
+use Rattle.model.specs.Laws.Mask.{set-own, set-other, cleared-own, cleared-other, joined-own, joined-other, alone-own, alone-other}
+use Rattle.model.specs.Laws.Ring.{distance-own, distance-le, next-stands, next-nearest}
 use Rattle.model.specs.Laws.Cases.{refused-free, orders-free}
 use Rattle.model.specs.Laws.After.{fresh-sized}
 use Rattle.model.specs.Laws.Kept.{good-fresh, good-after, good-ran, room-fits}
@@ -69,6 +71,26 @@ only-steps-cost = orders-free
 pub next-first : (d o a : ℕ) → o < d → 0 < a → a < 2 ^ d
     → (stands a (next d o a) ≡ true) × ((j : ℕ) → j < d → stands a j ≡ true → distance d o (next d o a) ≤ distance d o j)
 next-first d o a h p l = (next-stands h p l, λ j i s. next-nearest a h i s)
+
+-- 'o itself last': of all ports o lies farthest after itself
+pub itself-last : (d o j : ℕ) → o < d → j < d → (distance d o o ≡ d) × (distance d o j ≤ d)
+itself-last d o j h l = (distance-own h, distance-le h l)
+
+-- 'Additions to ACTIVE wrap at 64 bits': the fetch-and-add of a port's bit sets that bit, that of its complement clears it, and no other bit changes
+pub bit-set : (d m k : ℕ) → k < d → d ≤ 64 → m < 2 ^ d → stands m k ≡ false
+    → (stands (added m (2 ^ k)) k ≡ true) × ((j : ℕ) → j ≢ k → stands (added m (2 ^ k)) j ≡ stands m j)
+bit-set d m k l w h e = (set-own l w h e, λ j n. set-other l w h e n)
+
+pub bit-cleared : (d m k : ℕ) → k < d → d ≤ 64 → m < 2 ^ d → stands m k ≡ true
+    → (stands (added m (2 ^ 64 - 2 ^ k)) k ≡ false) × ((j : ℕ) → j ≢ k → stands (added m (2 ^ 64 - 2 ^ k)) j ≡ stands m j)
+bit-cleared d m k l w h e = (cleared-own l w h e, λ j n. cleared-other l w h e n)
+
+-- Copy sets: a reader joins the holders and no other port comes or goes; a port that writes is sole holder
+pub holder-joined : (m k : ℕ) → (stands (joined m k) k ≡ true) × ((j : ℕ) → j ≢ k → stands (joined m k) j ≡ stands m j)
+holder-joined m k = (joined-own m k, λ j n. joined-other m n)
+
+pub sole-holder : (k : ℕ) → (stands (alone k) k ≡ true) × ((j : ℕ) → j ≢ k → stands (alone k) j ≡ false)
+sole-holder k = (alone-own k, λ j n. alone-other n)
 
 -- From here on: the table reached from the fresh table of d ports by any orders, refused ones included
 abbrev pub reached : ℕ → List Order → Table

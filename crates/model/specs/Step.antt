@@ -1,6 +1,6 @@
 -- The steps (document 01, 'The steps'): a clause for each point, in the document's order, with the next point as its number.
 use mathlib.Core.Bool.{Bool, true, false, cond, _&&_}
-use Prim.Native.Nat.{ℕ, suc, _+_, _-_, _^_}
+use Prim.Native.Nat.{ℕ, _+_, _-_, _^_}
 use lib.Dec.{eqb, ltb}
 use Rattle.model.specs.declared.Word.{Word}
 use Rattle.model.specs.declared.Work.{Work}

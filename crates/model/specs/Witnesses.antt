@@ -4,7 +4,6 @@ use mathlib.Core.Bool.{true}
 use mathlib.Core.List.{List, [], _∷_, _++_}
 use Prim.Native.Nat.{ℕ}
 use lib.ListN.{replicate}
-use Rattle.model.specs.declared.Table.{Table}
 use Rattle.model.specs.Table.{CS, portAt, freshTable}
 use Rattle.model.specs.Event.{enter, stepping, crash, leave}
 use Rattle.model.specs.Run.{Order, order, after, ran, done, passedOver, passageCost}

@@ -1,12 +1,11 @@
 -- The tables by point as the code holds them: places as the bits of one number, touches as a list of numbers. Each agrees with its definition.
 use mathlib.Core.Path.{_≡_, refl, sym, ap, _∙_}
-use mathlib.Core.Logic.{⊎-elim}
-use mathlib.Core.Bool.{Bool, true, false, cond, not, _&&_, _||_, Bool·beq, true≢false, and-false}
-use mathlib.Core.List.{List, [], _∷_, _++_, map}
+use mathlib.Core.Bool.{Bool, true, false, cond, _&&_, Bool·beq, true≢false, and-false}
+use mathlib.Core.List.{List, [], _∷_, _++_}
 use Prim.Native.Nat.{ℕ, zero, suc, _-_, _%_, _≤_, _<_}
-use native.Mathlib.Nat.{not-suc-le-zero, ne-of-lt, lt-of-lt-of-le, le-of-suc-le-suc, eq-or-lt-of-le, add-sub-of-le}
+use native.Mathlib.Nat.{ne-of-lt, lt-of-lt-of-le, add-sub-of-le}
 use native.Mathlib.Omega.{arith}
-use lib.Dec.{eqb, leb, ltb}
+use lib.Dec.{eqb, ltb}
 use lib.ListN.{getD, drop, List·getD-append, List·getD-map}
 use lib.Seq.{getD-drop}
 use borrow.Author.Tests.{ltb-true, ltb-false, lt-leb, ne-eqb}
@@ -18,7 +17,7 @@ use Rattle.model.specs.declared.Kind.the-variants.{Read, Write, Add, Swap}
 use Rattle.model.specs.declared.Kind.the-variants as Kinds
 use Rattle.model.specs.Laws.Tests.{every-below}
 use Rattle.model.specs.Mask.{stands}
-use Rattle.model.specs.Points.{none, pointOf, oneOf, fromTo, ownPlace, seenPlace, candidatePlace, candidateSpinPlace, seenPoints, candidatePoints, candidateSpinPoints, points}
+use Rattle.model.specs.Points.{none, pointOf, oneOf, ownPlace, seenPlace, candidatePlace, candidateSpinPlace, seenPoints, candidatePoints, candidateSpinPoints, points}
 use Rattle.model.specs.Good.{everyBelow, named}
 use Rattle.model.specs.Cost.{touch, untouched, touchAt}
 

@@ -7,7 +7,7 @@ use model::Table;
 use model::Work;
 use points::places;
 ghost use mathlib.Core.Path.{_≡_};
-ghost use Prim.Native.Nat.{_<_, _≤_};
+ghost use Prim.Native.Nat.{_<_};
 ghost use Rattle.model.specs.Table.{room};
 ghost use Rattle.model.specs.Good as Good;
 ghost use Rattle.rules.specs.Check.{placeGoodOn};

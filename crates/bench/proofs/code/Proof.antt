@@ -1,6 +1,5 @@
 use borrow.Author.Needs.{needs}
 use native.Mathlib.Omega.{arith}
-use Rattle.model.specs.declared.Answer.{Answer}
 use Rattle.lock.specs.Single.{number-small}
 use Rattle.bench.proofs.code.Statement.{statement}
 use Rattle.bench.proofs.code.Tie as tie

@@ -1,9 +1,8 @@
 use borrow.Author.Needs.{needs}
 use mathlib.Core.Path.{_≡_, sym, ap, _∙_}
 use Rattle.model.specs.declared.Made.{Made}
-use Rattle.model.specs.declared.Table.{Table}
 use Rattle.model.specs.Event.{numberOf}
-use Rattle.model.specs.Run.{ordersFor, run}
+use Rattle.model.specs.Run.{run}
 use Rattle.image.specs.Image.{opened}
 use Rattle.cabi.specs.Laws.{is-done, no-image, check-refused, check-open}
 use Rattle.cabi.proofs.yarvelow_check.Statement.{statement}

@@ -1,7 +1,6 @@
 use borrow.Author.Needs.{needs}
 use mathlib.Core.Path.{_≡_, sym, ap, subst, _∙_}
 use mathlib.Core.List.{List}
-use Prim.Native.Nat.{ℕ}
 use Rattle.model.specs.declared.Table.{Table}
 use Rattle.model.specs.declared.Made.{Made}
 use Rattle.model.specs.declared.Answer.the-variants.{Done}

@@ -19,7 +19,7 @@ use Rattle.model.specs.Points.{settled}
 use Rattle.model.specs.Good.{good}
 use Rattle.model.specs.Step.{withValue}
 use Rattle.model.specs.Cost.{home, old, putShared, charge}
-use Rattle.model.specs.Event.{touchOf, homeOf, moveOf, sharedAfter, copiesAfter, chargeOf, marked, stepped}
+use Rattle.model.specs.Event.{touchOf, homeOf, moveOf, sharedAfter, chargeOf, marked, stepped}
 use Rattle.model.specs.Run.{Order, after}
 use Rattle.model.specs.Laws.Tests.{split}
 use Rattle.model.specs.Laws.Rules.{port-rules}

@@ -96,15 +96,6 @@ row-at q l e = rw e at (l .row)
 pub own-latest : {p : Port} → Life p → Trying (p .status) (p .go) (p .work .own) → (p .work .own ≡ p .made) × (0 < p .made)
 own-latest {p} l r = let e = l .latest (r .some) in omega arith
 
--- at 17, and in the promotions at 30 to 35 and 40 to 45, STATUS is EXIT or ABORT
-pub leaving-release : {p : Port} → Life p → pointOf (p .point) ≡ p17 → Leaving (p .status)
-leaving-release l e = row-at p17 l e .0
-
-pub leaving-promotion : (x : Tens) (p : Port) → (x ≡ two → ⊥) → PromotingOf x p → Leaving (p .status)
-leaving-promotion two p n r = absurd (n refl)
-leaving-promotion three p n r = r .0
-leaving-promotion four p n r = r
-
 -- STATUS is CS only at 1, 11 and 13
 abbrev pub Critical : ℕ → Type 0
 Critical n = (n ≡ 1) ⊎ (n ≡ 11) ⊎ (n ≡ 13)

@@ -186,9 +186,6 @@ trailing (suc d) m p h = go (m % 2) refl (λ (e : m % 2 ≡ 0). trailing d (m / 
     go zero e ih = (suc-le-suc (ih e .0), half m t ∙ ih e .1)
     go (suc r) e ih = (omega arith, port-zero m ∙ eq-eqb (m % 2) 1 (omega arith))
 
-pub trailing-below : (d m : ℕ) → 0 < m → m < 2 ^ d → trailingZeros d m < d
-trailing-below d m p h = trailing d m p h .0
-
 pub trailing-stands : (d m : ℕ) → 0 < m → m < 2 ^ d → stands m (trailingZeros d m) ≡ true
 trailing-stands d m p h = trailing d m p h .1
 

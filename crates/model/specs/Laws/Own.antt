@@ -1,18 +1,17 @@
 -- The step of one port by its point: the number of each point, what the port sees, and what a step keeps of it.
-use mathlib.Core.Path.{_≡_, refl, sym, _∙_, ap, subst}
+use mathlib.Core.Path.{_≡_, refl, sym, _∙_, ap}
 use mathlib.Core.Bool.{true, false, and-false, false≢true}
 use Prim.Native.Nat.{ℕ, _+_, _≤_, _<_}
 use native.Mathlib.Decide.{decLt}
 use native.Mathlib.Omega.{arith}
 use lib.Dec.{eqb}
 use borrow.Author.Tests.{eqb-true, lt-leb}
-use Rattle.model.specs.declared.Port.{Port}
 use Rattle.model.specs.declared.Table.{Table}
 use Rattle.model.specs.declared.View.{View}
 use Rattle.model.specs.Table.{portAt}
-use Rattle.model.specs.Points.{Point, none, p0, p1, p2, p3, p4, p5, p6, p8, p9, p10, p11, p12, p13, p14, p15, p16, p17, p18, p19, x0, x1, x2, x3, x4, x5, tens, pointOf, settled}
+use Rattle.model.specs.Points.{Point, none, p0, p1, p2, p3, p4, p5, p6, p8, p9, p10, p11, p12, p13, p14, p15, p16, p17, p18, p19, x0, x1, x2, x3, x4, x5, tens, pointOf}
 use Rattle.model.specs.Good.{implies, everyBelow, named}
-use Rattle.model.specs.Step.{withWork, step}
+use Rattle.model.specs.Step.{step}
 use Rattle.model.specs.Cost.{touchAt, home}
 use Rattle.model.specs.Event.{touchOf, homeOf, viewOf, moveOf}
 use Rattle.model.specs.Laws.Tests.{implied, every-below}
@@ -62,11 +61,6 @@ number n q h e = elim (decLt n 50) [
   | no l ↦ absurd (false≢true (sym (far n (omega arith)) ∙ h))
 ]
 
--- a number that is named has a point
-pub has-point : (n : ℕ) → named n ≡ true → pointOf n ≡ none → ⊥
-unfolding named numberOfPoint
-has-point n h e = false≢true (subst (λ (m : ℕ). named m ≡ true) (number n none h e) h)
-
 -- what port k sees, with GO g of the port that it touches
 abbrev pub sightOf : Table → ℕ → ℕ → View
 sightOf t k g =
@@ -81,8 +75,3 @@ move-at t k q e = ap (λ (q : Point). step q (viewOf t k)) e
 pub home-at : (t : Table) (k : ℕ) (q : Point) → pointOf (portAt t k .point) ≡ q → homeOf t k ≡ home (touchAt q .cell) k (portAt t k .work)
 unfolding homeOf touchOf
 home-at t k q e = ap (λ (q : Point). home (touchAt q .cell) k (portAt t k .work)) e
-
--- only the working values of a port are settled: made, GO, point, STATUS, flag and value stay
-pub settled-rest : (p : Port) → settled p ≡ withWork (settled p .work) p
-unfolding settled
-settled-rest p = refl

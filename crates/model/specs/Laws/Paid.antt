@@ -1,17 +1,17 @@
 -- On a good table the orders of a run whose check has been paid are the events.
-use mathlib.Core.Path.{_≡_, refl, sym, ap, _∙_}
-use mathlib.Core.Bool.{Bool, true, false, cond, _&&_}
+use mathlib.Core.Path.{_≡_, refl}
+use mathlib.Core.Bool.{Bool, true, false, cond}
 use mathlib.Core.List.{List, [], _∷_}
 use Prim.Native.Nat.{ℕ, _≤_}
 use borrow.Author.Tests.{leb-false, le-leb, lt-ltb}
-use lib.Dec.{eqb, leb, ltb}
+use lib.Dec.{eqb, leb}
 use Rattle.model.specs.declared.Table.{Table}
 use Rattle.model.specs.declared.Outcome.{Outcome}
 use Rattle.model.specs.declared.Answer.the-variants.{BadTable, NoSuchPort}
 use Rattle.model.specs.Table.{Sized, portAt}
 use Rattle.model.specs.Good.{sizeGood, good}
 use Rattle.model.specs.Event.{numberOf, firstOf, refusals, refusal, stepping, free, carried, eventGood, event}
-use Rattle.model.specs.Run.{Order, after, ran, codeOf, codes}
+use Rattle.model.specs.Run.{Order, after, ran, codes}
 use Rattle.model.specs.Paid.{placed, paidAnswer, paidEvent, paidRan, paidCodes}
 use Rattle.model.specs.Laws.Tests.{split}
 use Rattle.model.specs.Laws.Rules.{shared-rules, port-rules}

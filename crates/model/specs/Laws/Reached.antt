@@ -1,5 +1,5 @@
 -- What holds of every table reached from a fresh one: its size, its D, and who holds the word.
-use mathlib.Core.Path.{_≡_, refl, sym, subst}
+use mathlib.Core.Path.{_≡_}
 use mathlib.Core.List.{List, [], _∷_}
 use Prim.Native.Nat.{ℕ}
 use Rattle.model.specs.declared.Table.{Table}

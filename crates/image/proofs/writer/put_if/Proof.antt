@@ -9,7 +9,6 @@ use native.Mathlib.Omega.{arith}
 use borrow.Author.Needs.{needs}
 use borrow.Author.Tests.{not-true, not-false}
 use lib.ListN.{length, length-map}
-use lib.Seq.{sets}
 use Rattle.model.specs.declared.Table.{Table}
 use Rattle.model.specs.Table.{room, Sized, noPort, noCopies, portAt}
 use Rattle.model.specs.Good.{placeGood, everyBelow}
