@@ -15,9 +15,7 @@ ghost use Rattle.model.specs.Cost as Cost;
 // One past the highest point.
 const POINTS: u8 = 46;
 
-// Bit n stands where n is a point, and where a working value has its place at point n.
-pub const NAMED: u64 = 127 | 4095 << 8 | 63 << 20 | 63 << 30 | 63 << 40;
-
+// Bit n stands where a working value has its place at point n.
 pub const OWN: u64 = 1 << 5 | 1 << 6 | 7 << 8 | 1 << 17 | 63 << 20 | 63 << 30;
 
 pub const SEEN: u64 = 46 << 20 | 46 << 30 | 46 << 40;

@@ -12,6 +12,9 @@ ghost use Rattle.model.specs.Table.{room};
 ghost use Rattle.model.specs.Good as Good;
 ghost use Rattle.rules.specs.Check.{placeGoodOn};
 
+// Bit n stands where n is a point.
+const NAMED: u64 = 127 | 4095 << 8 | 63 << 20 | 63 << 30 | 63 << 40;
+
 // The most spins that a port makes.
 pub const MOST: u16 = 65535;
 
@@ -46,7 +49,7 @@ fn fields_good(active: u64, k: u64, p: Port) -> bool
     ensures { λ r. ⌜ r ≡ Good.fieldsGood active k p ⌝ }
 {
     let bit = masks::stands(active, k);
-    places::has(places::NAMED, p.point)
+    places::has(NAMED, p.point)
         & (p.status <= 3)
         & (p.flag <= 1)
         & (p.value <= 1)
