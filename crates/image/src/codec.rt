@@ -8,7 +8,7 @@ ghost use Rattle.layout.specs.Bytes.{little, value, sum, pack, unpack};
 ghost use Rattle.image.specs.Image.{same};
 ghost use Rattle.image.specs.Laws.Rows.{narrow};
 
-fn wide(x: u8) -> u64
+pub fn wide(x: u8) -> u64
     ensures { λ r. ⌜ r ≡ x ⌝ }
 {
     x as u64

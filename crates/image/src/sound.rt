@@ -1,4 +1,5 @@
 // The check of an image's table where it stands: port by port, with no room for a table.
+use crate::codec;
 use crate::parts;
 use rules::good;
 ghost use mathlib.Core.Path.{_≡_};
@@ -8,18 +9,12 @@ ghost use Rattle.image.specs.Image.{held};
 ghost use Rattle.image.specs.Laws.Reading.{portsIn};
 ghost use Rattle.image.specs.Laws.Sound.{soundIn};
 
-fn wide(x: u8) -> u64
-    ensures { λ r. ⌜ r ≡ x ⌝ }
-{
-    x as u64
-}
-
 // Made of port j in the image of d ports; 0 where there is no such port.
 fn made_in(bytes: &[u8], d: u64, j: u8) -> u16
     requires { ⌜ d ≡ portsIn (now bytes) ⌝ }
     ensures { λ r. ⌜ r ≡ portAt (held d (now (bytes .entry))) j .made ⌝ }
 {
-    if d <= wide(j) {
+    if d <= codec::wide(j) {
         return 0;
     }
     let p = parts::port_at(bytes, layout::port_place(j));
