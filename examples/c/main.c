@@ -1,8 +1,8 @@
 /* A lone passage at D = 2 from C: port 0 enters, comes inside, leaves, and is idle again.
  *
- *     cc -I include examples/c/main.c -L DIRECTORY -lcabi -o lone && ./lone
- *
- * where DIRECTORY holds libcabi.a. */
+ *     tools/native staticlib cabi libcabi.a
+ *     cc -Iinclude examples/c/main.c libcabi.a -o lone && ./lone
+ */
 
 #include <stdio.h>
 #include <stdlib.h>
