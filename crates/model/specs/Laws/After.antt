@@ -57,7 +57,6 @@ withCopies s c =
     record { active = s .active; activecopies = c .activecopies; wordcopies = c .wordcopies; d = s .d; word = s .word }
 
 put-rest : (c : Cell) (m : ℕ) (s : Shared) → putShared c m s ≡ withCopies s (putShared c m s)
-unfolding putShared
 put-rest Nothing m s = refl
 put-rest Status m s = refl
 put-rest Go m s = refl
@@ -105,7 +104,7 @@ unfolding stepped
 copies-other t k j n = getD-set-other (t .copies) (homeOf t k) j _ noCopies n
 
 pub home-below : (t : Table) (k : ℕ) → good t ≡ true → k < t .shared .d → homeOf t k < t .shared .d
-unfolding homeOf home
+unfolding homeOf
 home-below t k e h = go (touchOf t k .cell)
   where
     go : (c : Cell) → home c k (portAt t k .work) < t .shared .d

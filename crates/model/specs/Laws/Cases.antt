@@ -134,14 +134,14 @@ module _ (t : Table) (o : Order) where
 
   unrefused : eqb (numberOf (refusal t (o .port) (o .event))) 0 ≡ true
       → (o .port < t .shared .d) × Unrefused (o .event) (portAt t (o .port))
-  unfolding refusal refuses refusals numberOf Unrefused
+  unfolding refusal refuses refusals Unrefused
   unrefused e =
       let h = unpassed ((leb (t .shared .d) (o .port), NoSuchPort) ∷ refusals (o .event) (portAt t (o .port))) refl (eqb-true _ _ e) in
       (leb-false _ _ (h 0), λ i. h (suc i))
 
   -- every order is one of the three
   by-tests : (g r s : Bool) → good t ≡ g → eqb (numberOf (refusal t (o .port) (o .event))) 0 ≡ r → eqb (o .event) stepping ≡ s → Case t o
-  unfolding numberOf stepped
+  unfolding stepped
   by-tests false r s eg er es = wasRefused (refused-by BadTable refl (shape false r s eg er es))
   by-tests true false s eg er es = wasRefused (refused-by (refusal t (o .port) (o .event)) er (shape true false s eg er es))
   by-tests true true false eg er es =

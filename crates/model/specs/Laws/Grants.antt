@@ -10,7 +10,7 @@ use Rattle.model.specs.declared.Table.{Table}
 use Rattle.model.specs.Table.{word, portAt}
 use Rattle.model.specs.Points.{candidateSpinPlace}
 use Rattle.model.specs.Step.{same}
-use Rattle.model.specs.Event.{numberOf, stepping}
+use Rattle.model.specs.Event.{stepping}
 use Rattle.model.specs.Run.{Order, done, stepsAt, grants}
 use Rattle.model.specs.Laws.Cases.{Allowed, enters, crashes, callsOff, leaves, Refused, Ordered, Stepped, Case, wasRefused, wasOrdered, wasStepped, cases}
 
@@ -60,5 +60,5 @@ module _ (t : Table) (o : Order) where
   ordered-grants c = undone-grants (ordered-undone (o .port) c)
 
   pub stepped-grants : Stepped t o → grants t o ≡ swaps (t .shared .word) (portAt t (o .port))
-  unfolding grants stepsAt done swaps candidateSpinPlace numberOf
+  unfolding grants stepsAt done swaps candidateSpinPlace
   stepped-grants c = rw (eq-eqb (o .port) (o .port) refl, eq-eqb (o .event) stepping (c .event), c .answer)

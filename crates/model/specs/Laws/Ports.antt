@@ -15,7 +15,7 @@ use Rattle.model.specs.declared.View.{View}
 use Rattle.model.specs.Table.{room, noPort, portIn, portAt, putPort, Sized}
 use Rattle.model.specs.Points.{Tens, Point, none, p0, p1, p2, p3, p4, p5, p6, p8, p9, p10, p11, p12, p13, p14, p15, p16, p17, p18, p19, x0, x1, x2, x3, x4, x5, pointOf, settled}
 use Rattle.model.specs.Step.{withValue, step}
-use Rattle.model.specs.Cost.{touchAt, home, old}
+use Rattle.model.specs.Cost.{touchAt, old}
 use Rattle.model.specs.Event.{touchOf, homeOf, moveOf, viewOf, marked, stepped}
 use Rattle.model.specs.Laws.Tests.{split}
 use Rattle.model.specs.Laws.Own.{home-at}
@@ -70,7 +70,7 @@ only-x5 (x4 x) v e = absurd (false≢true e)
 only-x5 (x5 x) v e = (x, refl)
 
 pub sets-only : (t : Table) (k j : ℕ) → sets t k j ≡ true → Sets t k j
-unfolding sets moveOf touchOf touchAt old home
+unfolding sets moveOf touchOf touchAt
 sets-only t k j e =
     let w = portAt t k .work in
     let a = and-eq-true-iff _ (eqb (homeOf t k) j) .0 e in
