@@ -9,14 +9,15 @@ use Rattle.model.specs.declared.Shared.{Shared}
 use Rattle.model.specs.declared.Touch.{Touch}
 use Rattle.model.specs.declared.Charge.{Charge}
 use Rattle.model.specs.declared.Cell.{Cell}
-use Rattle.model.specs.Cost.{home, old, charge}
+use Rattle.model.specs.Table.{latest}
+use Rattle.model.specs.Cost.{home, charge}
 use Rattle.model.specs.Statements.{one}
 
 pub home-one : (cell : Cell) (k : ℕ) (w : Work) (r s : ℕ) → r ≡ home cell k w → s ≡ home cell k w → r ≡ s
 home-one cell k w r s = one
 
-pub old-one : (cell : Cell) (w : Work) (q : Port) (r s : Bool) → r ≡ old cell w q → s ≡ old cell w q → r ≡ s
-old-one cell w q r s = one
+pub latest-one : (p : Port) (n : ℕ) (r s : Bool) → r ≡ latest p n → s ≡ latest p n → r ≡ s
+latest-one p n r s = one
 
 pub charge-one : (u : Touch) (k : ℕ) (w : Work) (q : Port) (s : Shared) (c : Copies) (x y : Charge) → x ≡ charge u (k % 64) w q s c
     → y ≡ charge u (k % 64) w q s c → x ≡ y

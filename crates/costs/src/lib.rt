@@ -10,9 +10,10 @@ use model::Work;
 ghost use mathlib.Core.Path.{_≡_};
 ghost use mathlib.Core.Bool.{cond};
 ghost use Prim.Native.Nat.{_%_};
-ghost use lib.Dec.{eqb};
 ghost use Rattle.model.specs.Mask.{stands};
+ghost use Rattle.model.specs.Table as Table;
 ghost use Rattle.model.specs.Cost as Cost;
+ghost use Rattle.model.specs.Laws.Charges as Charges;
 
 // The port that a word belongs to, as port k touches it; ACTIVE and the lock word count with k.
 pub fn home(cell: Cell, k: u64, w: Work) -> u64
@@ -32,13 +33,13 @@ pub fn home(cell: Cell, k: u64, w: Work) -> u64
 
 // 0 for a word that is local to port k, else 1.
 fn remote(owner: u8, k: u64) -> u64
-    ensures { λ r. ⌜ r ≡ cond (eqb owner k) 0 1 ⌝ }
+    ensures { λ r. ⌜ r ≡ Cost.remote owner k ⌝ }
 {
     if owner as u64 == k { 0 } else { 1 }
 }
 
 fn distributed(cell: Cell, k: u64, w: Work) -> u64
-    ensures { λ r. ⌜ r ≡ Cost.distributed cell k w ⌝ }
+    ensures { λ r. ⌜ r ≡ Charges.distributed cell k w ⌝ }
 {
     match cell {
         Cell::Nothing => 0,
@@ -52,25 +53,32 @@ fn distributed(cell: Cell, k: u64, w: Work) -> u64
     }
 }
 
+// Spin n of a port is its latest.
+pub fn latest(p: Port, n: u16) -> bool
+    ensures { λ r. ⌜ r ≡ Table.latest p n ⌝ }
+{
+    (n == p.made) & !(p.made == 0)
+}
+
 // The word is a spin that isn't the latest of its port, q.
-pub fn old(cell: Cell, w: Work, q: Port) -> bool
-    ensures { λ r. ⌜ r ≡ Cost.old cell w q ⌝ }
+fn old(cell: Cell, w: Work, q: Port) -> bool
+    ensures { λ r. ⌜ r ≡ Charges.old cell w q ⌝ }
 {
     match cell {
         Cell::Nothing => false,
         Cell::Status => false,
         Cell::Go => false,
-        Cell::Spin => !((w.own == q.made) & !(q.made == 0)),
+        Cell::Spin => !latest(q, w.own),
         Cell::Active => false,
         Cell::Lock => false,
         Cell::CandidateGo => false,
-        Cell::SeenSpin => !((w.seenspin == q.made) & !(q.made == 0)),
+        Cell::SeenSpin => !latest(q, w.seenspin),
     }
 }
 
 // The ports with a current copy of the word.
 fn holders(cell: Cell, s: Shared, c: Copies) -> u64
-    ensures { λ r. ⌜ r ≡ Cost.holders cell s c ⌝ }
+    ensures { λ r. ⌜ r ≡ Charges.holders cell s c ⌝ }
 {
     match cell {
         Cell::Nothing => 0,
@@ -117,7 +125,7 @@ fn copied(kind: Kind, k: u64, m: u64) -> u64
 
 // The copy sets with m for the word's.
 fn put_shared(cell: Cell, m: u64, s: Shared) -> Shared
-    ensures { λ r. ⌜ r ≡ Cost.putShared cell m s ⌝ }
+    ensures { λ r. ⌜ r ≡ Charges.putShared cell m s ⌝ }
 {
     let mut t = s;
     match cell {
@@ -139,7 +147,7 @@ fn put_shared(cell: Cell, m: u64, s: Shared) -> Shared
 }
 
 fn put_copies(cell: Cell, m: u64, c: Copies) -> Copies
-    ensures { λ r. ⌜ r ≡ Cost.putCopies cell m c ⌝ }
+    ensures { λ r. ⌜ r ≡ Charges.putCopies cell m c ⌝ }
 {
     let mut b = c;
     match cell {

@@ -1,11 +1,11 @@
 -- A step on what it can see: the shared part, its own port, and the port that it touches; and the table put together again.
 use mathlib.Core.Path.{_≡_, refl, _∙_}
-use mathlib.Core.Bool.{Bool, true, false, cond, not, _&&_}
+use mathlib.Core.Bool.{Bool, true, false, cond, _&&_}
 use mathlib.Core.List.{List}
 use Prim.Native.Nat.{ℕ, _%_, _≤_, _<_, _^_}
 use native.Mathlib.Nat.{mod-eq-of-lt, lt-of-lt-of-le, pos-of-ne-zero}
 use lib.Dec.{eqb}
-use lib.ListN.{set}
+use lib.ListN.{getD, set}
 use lib.Seq.{set-getD}
 use borrow.Author.Tests.{eq-eqb, ne-eqb}
 use Rattle.model.specs.declared.Port.{Port}
@@ -19,13 +19,13 @@ use Rattle.model.specs.declared.Charge.{Charge}
 use Rattle.lock.specs.declared.acts.Left.{Left}
 use Rattle.model.specs.declared.Outcome.{Outcome}
 use Rattle.model.specs.declared.Answer.the-variants.{Done}
-use Rattle.model.specs.Table.{most, noPort, portIn, portAt, copiesAt, putPort}
+use Rattle.model.specs.Table.{most, table, noPort, portAt, copiesAt, putPort, latest}
 use Rattle.model.specs.Ring.{next}
 use Rattle.model.specs.Laws.Ring.{next-any}
 use Rattle.model.specs.Points.{pointOf, settled}
-use Rattle.model.specs.Step.{withValue, step}
-use Rattle.model.specs.Cost.{old, charge}
-use Rattle.model.specs.Event.{numberOf, ordered, sharedAfter, copiesAfter, touchOf, homeOf, viewOf, moveOf, chargeOf, marked, stepped, free, carried}
+use Rattle.model.specs.Step.{withValue, view, step}
+use Rattle.model.specs.Cost.{charge}
+use Rattle.model.specs.Event.{numberOf, ordered, sharedAfter, copiesAfter, touchOf, homeOf, viewOf, moveOf, chargeOf, outcome, marked, stepped, free, carried}
 use Rattle.model.specs.Paid.{paidAnswer, paidEvent}
 
 -- what a step may count on, of what it sees
@@ -50,7 +50,7 @@ ringed {v} s n r e =
 
 -- what port k sees, where q is the port that it touches, and what its step changes
 abbrev pub viewOn : Shared → ℕ → Port → Port → View
-viewOn s k p q = record { own = p; active = s .active; d = s .d; k = k; go = q .go; word = s .word }
+viewOn s k p q = view p (s .active) (s .d) k (q .go) (s .word)
 
 abbrev pub moveOn : Shared → ℕ → Port → Port → Move
 moveOn s k p q = step (pointOf (p .point)) (viewOn s k p q)
@@ -62,7 +62,7 @@ leftBy u p q m x =
       own = settled (m .own);
       shared = x .shared;
       copies = x .copies;
-      sets = m .sets && not (old (u .cell) (p .work) q);
+      sets = m .sets && latest q (p .work .seenspin);
       cached = x .cached;
       distributed = x .distributed;
     }
@@ -74,24 +74,14 @@ steppedOn u s k p q c =
 
 -- the table and the costs from what the step leaves, where j is the port that it touched
 abbrev pub setAt : Bool → List Port → ℕ → List Port
-setAt b ps j = set ps j (withValue (cond b 1 (portIn ps j .value)) (portIn ps j))
+setAt b ps j = set ps j (withValue (cond b 1 (getD ps j noPort .value)) (getD ps j noPort))
 
 abbrev pub assembled : Table → ℕ → ℕ → Left → Outcome
 assembled t k j l =
-    record {
-      table =
-          record {
-            ports = setAt (l .sets) (set (t .ports) k (l .own)) j;
-            copies = set (t .copies) j (l .copies);
-            shared = l .shared;
-          };
-      cached = l .cached;
-      distributed = l .distributed;
-      answer = Done;
-    }
+    outcome (table (setAt (l .sets) (set (t .ports) k (l .own)) j) (set (t .copies) j (l .copies)) (l .shared)) (l .cached) (l .distributed) Done
 
 -- a spin that is set, or left as it is
-set-at : (b : Bool) (ps : List Port) (j : ℕ) → setAt b ps j ≡ cond b (set ps j (withValue 1 (portIn ps j))) ps
+set-at : (b : Bool) (ps : List Port) (j : ℕ) → setAt b ps j ≡ cond b (set ps j (withValue 1 (getD ps j noPort))) ps
 set-at true ps j = refl
 set-at false ps j = set-getD ps j noPort
 
@@ -103,7 +93,7 @@ module _ (t : Table) (k : ℕ) where
   assembled-step =
       rw
       (set-at
-      (moveOf t k .sets && not (old (touchOf t k .cell) (portAt t k .work) (portAt t (homeOf t k))))
+      (moveOf t k .sets && latest (portAt t (homeOf t k)) (portAt t k .work .seenspin))
       (set (t .ports) k (settled (moveOf t k .own)))
       (homeOf t k))
 

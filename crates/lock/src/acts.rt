@@ -57,15 +57,13 @@ pub fn stepped(u: Touch, s: Shared, k: u64, own: Port, q: Port, c: Copies) -> Le
         spin: kept_copies(m.makes, c.spin),
     };
     let x = costs::charge(u, k, own.work, q, after, held);
-    let cell = u.cell;
-    let fits = !costs::old(cell, own.work, q);
     let shared = x.shared;
     let copies = x.copies;
     Left {
         own: places::settled(m.own),
         shared,
         copies,
-        sets: m.sets & fits,
+        sets: m.sets & costs::latest(q, own.work.seenspin),
         cached: x.cached,
         distributed: x.distributed,
     }

@@ -82,11 +82,7 @@ fn swapped(w: Word, old: Word, new: Word) -> Word
 fn read_spin(p: Port, n: u16) -> u8
     ensures { λ r. ⌜ r ≡ Table.readSpin p n ⌝ }
 {
-    if (n == p.made) & !(p.made == 0) {
-        p.value
-    } else {
-        0
-    }
+    if costs::latest(p, n) { p.value } else { 0 }
 }
 
 // Point 1: TRY or ABORT 2, CS 11, EXIT 13.

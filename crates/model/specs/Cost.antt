@@ -1,5 +1,5 @@
 -- Remote references (document 01, 'Remote references'): which word each point touches and how, and what that costs in both models.
-use mathlib.Core.Bool.{Bool, false, cond, not}
+use mathlib.Core.Bool.{Bool, cond}
 use Prim.Native.Nat.{ℕ}
 use lib.Dec.{eqb}
 use Rattle.model.specs.declared.Work.{Work}
@@ -63,39 +63,6 @@ home Lock k w = k
 home CandidateGo k w = w .candidate
 home SeenSpin k w = w .seenowner
 
--- distributed model: STATUS k, GO k and port k's spins are local to k and cost it 0; any other touch costs 1
-abbrev pub distributed : Cell → ℕ → Work → ℕ
-distributed Nothing k w = 0
-distributed Status k w = 0
-distributed Go k w = 0
-distributed Spin k w = 0
-distributed Active k w = 1
-distributed Lock k w = 1
-distributed CandidateGo k w = cond (eqb (w .candidate) k) 0 1
-distributed SeenSpin k w = cond (eqb (w .seenowner) k) 0 1
-
--- the word is a spin that isn't the latest of its port, q
-abbrev pub old : Cell → Work → Port → Bool
-old Nothing w q = false
-old Status w q = false
-old Go w q = false
-old Spin w q = not (latest q (w .own))
-old Active w q = false
-old Lock w q = false
-old CandidateGo w q = false
-old SeenSpin w q = not (latest q (w .seenspin))
-
--- the ports with a current copy of the word, where c are the copy sets of the port that it belongs to
-abbrev pub holders : Cell → Shared → Copies → ℕ
-holders Nothing s c = 0
-holders Status s c = c .status
-holders Go s c = c .go
-holders Spin s c = c .spin
-holders Active s c = s .activecopies
-holders Lock s c = s .wordcopies
-holders CandidateGo s c = c .go
-holders SeenSpin s c = c .spin
-
 -- cached model: a read costs 1 if the port has no copy; a write, an addition and a compare and swap, failed or not, cost 1
 abbrev pub cached : Kind → ℕ → ℕ → ℕ
 cached Kinds.Nothing k m = 0
@@ -112,36 +79,33 @@ copied Write k m = alone k
 copied Add k m = alone k
 copied Swap k m = alone k
 
--- the copy sets with m for the word's
-abbrev pub putShared : Cell → ℕ → Shared → Shared
-putShared Nothing m s = s
-putShared Status m s = s
-putShared Go m s = s
-putShared Spin m s = s
-putShared Active m s = shared (s .active) m (s .wordcopies) (s .d) (s .word)
-putShared Lock m s = shared (s .active) (s .activecopies) m (s .d) (s .word)
-putShared CandidateGo m s = s
-putShared SeenSpin m s = s
+-- a charge: what all share and the copy sets of the word's port after the touch, and what it costs in the cached and in the distributed model
+abbrev pub charged : Shared → Copies → ℕ → ℕ → Charge
+charged s c m n = record { shared = s; copies = c; cached = m; distributed = n }
 
-abbrev pub putCopies : Cell → ℕ → Copies → Copies
-putCopies Nothing m c = c
-putCopies Status m c = copies m (c .go) (c .spin)
-putCopies Go m c = copies (c .status) m (c .spin)
-putCopies Spin m c = copies (c .status) (c .go) m
-putCopies Active m c = c
-putCopies Lock m c = c
-putCopies CandidateGo m c = copies (c .status) m (c .spin)
-putCopies SeenSpin m c = copies (c .status) (c .go) m
+-- distributed model: a word of port j costs port k nothing where it is k's own, and else 1
+abbrev pub remote : ℕ → ℕ → ℕ
+remote j k = cond (eqb j k) 0 1
 
--- what a touch by port k costs, and the copy sets after it; q is the port that the word belongs to, and c its copy sets.
--- Touching a spin that isn't the latest costs 1 and changes no copy set.
+-- a spin that is the latest of its port, or isn't: touching one that isn't costs 1 and changes no copy set
+abbrev pub spinCharge : Bool → Kind → ℕ → ℕ → Shared → Copies → Charge
+spinCharge newest a k n s c =
+    cond newest (charged s (copies (c .status) (c .go) (copied a k (c .spin))) (cached a k (c .spin)) n) (charged s c 1 n)
+
+-- a touch of each word by port k, whose working values are w; q is the port that the word belongs to, and c its copy sets. STATUS k, GO k and port k's
+-- spins are local to k; ACTIVE and the word are remote to all
+abbrev pub wordCharge : Cell → Kind → ℕ → Work → Port → Shared → Copies → Charge
+wordCharge Nothing a k w q s c = charged s c (cached a k 0) 0
+wordCharge Status a k w q s c = charged s (copies (copied a k (c .status)) (c .go) (c .spin)) (cached a k (c .status)) 0
+wordCharge Go a k w q s c = charged s (copies (c .status) (copied a k (c .go)) (c .spin)) (cached a k (c .go)) 0
+wordCharge Spin a k w q s c = spinCharge (latest q (w .own)) a k 0 s c
+wordCharge Active a k w q s c =
+    charged (shared (s .active) (copied a k (s .activecopies)) (s .wordcopies) (s .d) (s .word)) c (cached a k (s .activecopies)) 1
+wordCharge Lock a k w q s c =
+    charged (shared (s .active) (s .activecopies) (copied a k (s .wordcopies)) (s .d) (s .word)) c (cached a k (s .wordcopies)) 1
+wordCharge CandidateGo a k w q s c =
+    charged s (copies (c .status) (copied a k (c .go)) (c .spin)) (cached a k (c .go)) (remote (w .candidate) k)
+wordCharge SeenSpin a k w q s c = spinCharge (latest q (w .seenspin)) a k (remote (w .seenowner) k) s c
+
 unfoldable pub charge : Touch → ℕ → Work → Port → Shared → Copies → Charge
-charge u k w q s c =
-    cond (old (u .cell) w q)
-    (record { shared = s; copies = c; cached = 1; distributed = distributed (u .cell) k w })
-    (record {
-      shared = putShared (u .cell) (copied (u .kind) k (holders (u .cell) s c)) s;
-      copies = putCopies (u .cell) (copied (u .kind) k (holders (u .cell) s c)) c;
-      cached = cached (u .kind) k (holders (u .cell) s c);
-      distributed = distributed (u .cell) k w;
-    })
+charge u k w q s c = wordCharge (u .cell) (u .kind) k w q s c

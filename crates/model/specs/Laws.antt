@@ -6,6 +6,7 @@ pub mod Mask
 pub mod Ring
 pub mod Rules
 pub mod Cases
+pub mod Charges
 pub mod Own
 pub mod Grants
 pub mod After

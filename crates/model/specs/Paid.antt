@@ -28,8 +28,7 @@ paidAnswer s k e p =
 
 unfoldable pub paidEvent : Table → ℕ → ℕ → Outcome
 paidEvent t k e =
-    cond (eqb (numberOf (paidAnswer (t .shared) k e (portAt t k))) 0)
-    (carried t k e)
+    cond (eqb (numberOf (paidAnswer (t .shared) k e (portAt t k))) 0) (carried t k e)
     (free (paidAnswer (t .shared) k e (portAt t k)) t)
 
 -- the table after a list of orders, and what they answer

@@ -1,7 +1,7 @@
 -- The points (document 01, 'The table' and 'The steps'): which there are, and where each working value has its place.
 use mathlib.Core.Bool.{Bool, false, cond, _&&_, _||_}
 use mathlib.Core.List.{List, [], _∷_, _++_}
-use Prim.Native.Nat.{ℕ, _+_}
+use Prim.Native.Nat.{ℕ}
 use lib.Dec.{eqb, leb}
 use lib.ListN.{getD}
 use Rattle.model.specs.declared.Port.{Port}
@@ -35,9 +35,7 @@ promotion x = x0 x ∷ x1 x ∷ x2 x ∷ x3 x ∷ x4 x ∷ x5 x ∷ none ∷ non
 abbrev pub points : List Point
 points =
     (p0 ∷ p1 ∷ p2 ∷ p3 ∷ p4 ∷ p5 ∷ p6 ∷ none ∷ p8 ∷ p9 ∷ p10 ∷ p11 ∷ p12 ∷ p13 ∷ p14 ∷ p15 ∷ p16 ∷ p17 ∷ p18 ∷ p19 ∷ [])
-    ++ promotion two
-    ++ promotion three
-    ++ promotion four
+    ++ promotion two ++ promotion three ++ promotion four
 
 abbrev pub pointOf : ℕ → Point
 pointOf n = getD points n none
@@ -84,9 +82,6 @@ kept b x = cond b x 0
 unfoldable pub settled : Port → Port
 settled p =
     port (p .point) (p .status) (p .flag) (p .value) (p .made) (p .go)
-    (work
-    (kept (ownPlace (p .point)) (p .work .own))
-    (kept (seenPlace (p .point)) (p .work .seenowner))
-    (kept (seenPlace (p .point)) (p .work .seenspin))
-    (kept (candidatePlace (p .point)) (p .work .candidate))
-    (kept (candidateSpinPlace (p .point)) (p .work .candidatespin)))
+    (work (kept (ownPlace (p .point)) (p .work .own))
+    (kept (seenPlace (p .point)) (p .work .seenowner)) (kept (seenPlace (p .point)) (p .work .seenspin))
+    (kept (candidatePlace (p .point)) (p .work .candidate)) (kept (candidateSpinPlace (p .point)) (p .work .candidatespin)))

@@ -80,8 +80,7 @@ candidateOf t o = portAt t (o .port) .work .candidate
 unfoldable pub passedOver : ℕ → Table → List Order → ℕ
 passedOver k t [] = 0
 passedOver k t (o ∷ os) =
-    cond (grants t o && eqb (candidateOf t o) k)
-    0
+    cond (grants t o && eqb (candidateOf t o) k) 0
     (cond (stands (after t o .shared .active) k) (cond (grants t o) 1 0 + passedOver k (after t o) os) 0)
 
 -- what port k's own steps cost in one model, up to its step at 19 or its next crash

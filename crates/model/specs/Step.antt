@@ -25,9 +25,6 @@ withFlag n p = port (p .point) (p .status) n (p .value) (p .made) (p .go) (p .wo
 abbrev pub withValue : ℕ → Port → Port
 withValue n p = port (p .point) (p .status) (p .flag) n (p .made) (p .go) (p .work)
 
-abbrev pub withMade : ℕ → Port → Port
-withMade n p = port (p .point) (p .status) (p .flag) (p .value) n (p .go) (p .work)
-
 abbrev pub withGo : ℕ → Port → Port
 withGo n p = port (p .point) (p .status) (p .flag) (p .value) (p .made) n (p .work)
 
@@ -46,6 +43,10 @@ withCandidate n p = withWork (work (p .work .own) (p .work .seenowner) (p .work 
 
 abbrev pub withCandidateSpin : ℕ → Port → Port
 withCandidateSpin n p = withWork (work (p .work .own) (p .work .seenowner) (p .work .seenspin) (p .work .candidate) n) p
+
+-- what a step of port k sees: its own record, ACTIVE, the number of ports, k, GO of the port that it touches, the word
+abbrev pub view : Port → ℕ → ℕ → ℕ → ℕ → Word → View
+view p active d k go w = record { own = p; active = active; d = d; k = k; go = go; word = w }
 
 -- what a step changes: its own record alone; and ACTIVE; and the word
 abbrev pub changed : View → Port → Move
@@ -73,7 +74,7 @@ swapped w old new = cond (same w old) new w
 
 -- 4: made grows by 1, that number goes to GO and own spin, its value is 0
 abbrev pub newSpin : Port → Port
-newSpin p = withValue 0 (withGo (p .made + 1) (withOwn (p .made + 1) (withMade (p .made + 1) p)))
+newSpin p = withOwn (p .made + 1) (port (p .point) (p .status) (p .flag) 0 (p .made + 1) (p .made + 1) (p .work))
 
 -- x1 where ACTIVE is 0: at 31 the port itself is candidate, 32; at 21 and 41, x4
 unfoldable pub unasked : Tens → View → Port
@@ -90,8 +91,7 @@ released v = swapped (v .word) (word 1 (v .k) (v .own .work .own)) (word 0 (v .k
 unfoldable pub granted : View → Word
 unfolding swapped
 granted v =
-    swapped (v .word)
-    (word 0 (v .own .work .seenowner) (v .own .work .seenspin))
+    swapped (v .word) (word 0 (v .own .work .seenowner) (v .own .work .seenspin))
     (word 1 (v .own .work .candidate) (v .own .work .candidatespin))
 
 unfoldable pub step : Point → View → Move
@@ -118,15 +118,11 @@ step p18 v = changed v (at 19 (withGo 0 (v .own)))
 step p19 v = changed v (at 0 (withStatus TRY (withFlag 0 (v .own))))
 step (x0 x) v = changed v (at (tens x + cond (eqb (v .word .taken) 1) 4 1) (withSeen (v .word) (v .own)))
 step (x1 x) v =
-    changed v
-    (cond (eqb (v .active) 0)
-    (unasked x v)
+    changed v (cond (eqb (v .active) 0) (unasked x v)
     (at (tens x + 2) (withCandidate (next (v .d) (v .own .work .seenowner) (v .active)) (v .own))))
 step (x2 x) v = changed v (at (tens x + 3) (withCandidateSpin (v .go) (v .own)))
 step (x3 x) v = changedWord v (granted v) (at (tens x + 4) (v .own))
 step (x4 x) v =
-    changed v
-    (cond (eqb (v .word .taken) 1 && ltb 0 (v .word .spin))
-    (at (tens x + 5) (withSeen (v .word) (v .own)))
-    (at (back x) (v .own)))
+    changed v (cond (eqb (v .word .taken) 1 && ltb 0 (v .word .spin))
+    (at (tens x + 5) (withSeen (v .word) (v .own))) (at (back x) (v .own)))
 step (x5 x) v = record { own = at (back x) (v .own); active = v .active; word = v .word; makes = false; sets = true }

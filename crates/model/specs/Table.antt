@@ -38,7 +38,7 @@ abbrev pub word : ℕ → ℕ → ℕ → Word
 word taken owner spin = record { spin = spin; owner = owner; taken = taken }
 
 -- the records from their fields, in the order of document 01's image: own spin, seen owner, seen spin, candidate, candidate spin; point, STATUS, flag,
--- latest value, made, GO, working values; the copies of STATUS, GO, latest spin; ACTIVE, its copies, the word's, D, the word
+-- latest value, made, GO, working values; the copies of STATUS, GO, latest spin; ACTIVE, its copies, the word's, D, the word; ports, copies, shared
 abbrev pub work : ℕ → ℕ → ℕ → ℕ → ℕ → Work
 work own owner spin candidate cspin =
     record { own = own; seenspin = spin; candidatespin = cspin; seenowner = owner; candidate = candidate }
@@ -53,6 +53,9 @@ copies status go spin = record { status = status; go = go; spin = spin }
 abbrev pub shared : ℕ → ℕ → ℕ → ℕ → Word → Shared
 shared active ac wc d w = record { active = active; activecopies = ac; wordcopies = wc; d = d; word = w }
 
+abbrev pub table : List Port → List Copies → Shared → Table
+table ps cs s = record { ports = ps; copies = cs; shared = s }
+
 -- all working values 0; a port that is all 0; no copies of a port's words
 abbrev pub noWork : Work
 noWork = work 0 0 0 0 0
@@ -64,18 +67,15 @@ abbrev pub noCopies : Copies
 noCopies = copies 0 0 0
 
 -- what stands at port k, and the copies of its words
-abbrev pub portIn : List Port → ℕ → Port
-portIn ps k = getD ps k noPort
-
 abbrev pub portAt : Table → ℕ → Port
-portAt t k = portIn (t .ports) k
+portAt t k = getD (t .ports) k noPort
 
 abbrev pub copiesAt : Table → ℕ → Copies
 copiesAt t k = getD (t .copies) k noCopies
 
 -- the table with another record at port k
 abbrev pub putPort : Table → ℕ → Port → Table
-putPort t k p = record { ports = set (t .ports) k p; copies = t .copies; shared = t .shared }
+putPort t k p = table (set (t .ports) k p) (t .copies) (t .shared)
 
 -- spin n of a port is its latest: number = made, made not 0
 abbrev pub latest : Port → ℕ → Bool
@@ -92,5 +92,4 @@ pub record Sized (t : Table) : Type 0 where
 
 -- the fresh table of d ports: each field's first value
 unfoldable pub freshTable : ℕ → Table
-freshTable d =
-    record { ports = replicate room noPort; copies = replicate room noCopies; shared = shared 0 0 0 d (word 0 0 0) }
+freshTable d = table (replicate room noPort) (replicate room noCopies) (shared 0 0 0 d (word 0 0 0))

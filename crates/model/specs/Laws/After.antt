@@ -1,9 +1,9 @@
 -- The table after an order, but for the ports: the lengths of its lists, what all share, the copy sets of the ports, and what a step costs.
 use mathlib.Core.Path.{_≡_, refl, _∙_, ap}
-use mathlib.Core.Bool.{true, not, _&&_}
+use mathlib.Core.Bool.{true, _&&_}
 use mathlib.Core.List.{List}
 use Prim.Native.Nat.{ℕ, _<_}
-use lib.ListN.{length, set, length-set, length-replicate}
+use lib.ListN.{length, getD, set, length-set, length-replicate}
 use lib.Seq.{getD-set-same, getD-set-other}
 use Rattle.model.specs.declared.Work.{Work}
 use Rattle.model.specs.declared.Port.{Port}
@@ -14,13 +14,14 @@ use Rattle.model.specs.declared.Touch.{Touch}
 use Rattle.model.specs.declared.Charge.{Charge}
 use Rattle.model.specs.declared.Cell.{Cell}
 use Rattle.model.specs.declared.Cell.the-variants.{Nothing, Status, Go, Spin, Active, Lock, CandidateGo, SeenSpin}
-use Rattle.model.specs.Table.{room, Sized, noCopies, portIn, portAt, copiesAt, putPort, freshTable}
+use Rattle.model.specs.Table.{room, Sized, noPort, noCopies, portAt, copiesAt, putPort, latest, freshTable}
 use Rattle.model.specs.Points.{settled}
 use Rattle.model.specs.Good.{good}
 use Rattle.model.specs.Step.{withValue}
-use Rattle.model.specs.Cost.{home, old, putShared, charge}
+use Rattle.model.specs.Cost.{home, charge}
 use Rattle.model.specs.Event.{touchOf, homeOf, moveOf, sharedAfter, chargeOf, marked, stepped}
 use Rattle.model.specs.Run.{Order, after}
+use Rattle.model.specs.Laws.Charges.{old, putShared, charge-parts}
 use Rattle.model.specs.Laws.Tests.{split}
 use Rattle.model.specs.Laws.Rules.{port-rules}
 use Rattle.model.specs.Laws.Cases.{after-case}
@@ -37,10 +38,10 @@ length-marked : (t : Table) (k : ℕ) (ps : List Port) → length (marked t k ps
 unfolding marked
 length-marked t k ps =
     split (λ (l : List Port). length l ≡ length ps)
-    (moveOf t k .sets && not (old (touchOf t k .cell) (portAt t k .work) (portAt t (homeOf t k))))
+    (moveOf t k .sets && latest (portAt t (homeOf t k)) (portAt t k .work .seenspin))
     _
     _
-    (λ e. length-set ps (homeOf t k) (withValue 1 (portIn ps (homeOf t k))))
+    (λ e. length-set ps (homeOf t k) (withValue 1 (getD ps (homeOf t k) noPort)))
     (λ e. refl)
 
 pub step-sized : (t : Table) (k : ℕ) → Sized t → Sized (stepped t k .table)
@@ -68,9 +69,10 @@ put-rest SeenSpin m s = refl
 
 charge-rest : (u : Touch) (k : ℕ) (w : Work) (q : Port) (s : Shared) (c : Copies)
     → charge u k w q s c .shared ≡ withCopies s (charge u k w q s c .shared)
-unfolding charge
 charge-rest u k w q s c =
+    rw (charge-parts u k w q s c) (
     split (λ (r : Charge). r .shared ≡ withCopies s (r .shared)) (old (u .cell) w q) _ _ (λ e. refl) (λ e. put-rest (u .cell) _ s)
+    )
 
 -- what a step leaves but for the ports, and what it costs: ACTIVE and the word as the move has them, and the number of ports as it was
 pub record StepAfter (t : Table) (k : ℕ) : Type 0 where

@@ -25,9 +25,10 @@ use Rattle.model.specs.Mask.{stands}
 use Rattle.model.specs.Points.{Tens, Point, none, p0, p1, p2, p3, p4, p5, p6, p8, p9, p10, p11, p12, p13, p14, p15, p16, p17, p18, p19, x0, x1, x2, x3, x4, x5, pointOf}
 use Rattle.model.specs.Good.{good}
 use Rattle.model.specs.Step.{step}
-use Rattle.model.specs.Cost.{untouched, touchAt, home, old, cached, distributed, charge}
+use Rattle.model.specs.Cost.{untouched, touchAt, home, cached, charge}
 use Rattle.model.specs.Event.{numberOf, stepping, refusal, touchOf, homeOf, viewOf, moveOf, sharedAfter, copiesAfter, chargeOf, stepped, carried, eventGood, event}
 use Rattle.model.specs.Laws.Tests.{split}
+use Rattle.model.specs.Laws.Charges.{old, distributed, charge-parts}
 use Rattle.model.specs.Laws.Mask.{joined-own}
 use Rattle.model.specs.Laws.Rules.{shared-rules}
 use Rattle.model.specs.Laws.Own.{home-at}
@@ -60,11 +61,12 @@ cell-cost SeenSpin k w = other-cost (w .seenowner) k
 
 pub charge-cost : (u : Touch) (k : ℕ) (w : Work) (q : Port) (s : Shared) (c : Copies)
     → (charge u k w q s c .cached ≤ 1) × (charge u k w q s c .distributed ≤ 1)
-unfolding charge
 charge-cost u k w q s c =
+    rw (charge-parts u k w q s c) (
     split (λ (r : Charge). (r .cached ≤ 1) × (r .distributed ≤ 1)) (old (u .cell) w q) _ _
     (λ e. (omega arith, cell-cost (u .cell) k w))
     (λ e. (kind-cost (u .kind) k _, cell-cost (u .cell) k w))
+    )
 
 -- nor does a step, an event that is carried out, nor any event
 step-cost : (t : Table) (k : ℕ) → (stepped t k .cached ≤ 1) × (stepped t k .distributed ≤ 1)

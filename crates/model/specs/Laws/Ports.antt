@@ -6,16 +6,16 @@ use Prim.Native.Nat.{ℕ, _<_}
 use native.Mathlib.Decide.{decLt}
 use native.Mathlib.Omega.{arith}
 use lib.Dec.{eqb}
-use lib.ListN.{length, set, List·getD-eq-default}
+use lib.ListN.{length, getD, set, List·getD-eq-default}
 use lib.Seq.{getD-set-same, getD-set-other, lt-length-set}
-use borrow.Author.Tests.{eqb-true, eqb-false, not-true, not-false}
+use borrow.Author.Tests.{eqb-true, eqb-false, not-true}
 use Rattle.model.specs.declared.Port.{Port}
 use Rattle.model.specs.declared.Table.{Table}
 use Rattle.model.specs.declared.View.{View}
-use Rattle.model.specs.Table.{room, noPort, portIn, portAt, putPort, Sized}
+use Rattle.model.specs.Table.{room, noPort, portAt, putPort, latest, Sized}
 use Rattle.model.specs.Points.{Tens, Point, none, p0, p1, p2, p3, p4, p5, p6, p8, p9, p10, p11, p12, p13, p14, p15, p16, p17, p18, p19, x0, x1, x2, x3, x4, x5, pointOf, settled}
 use Rattle.model.specs.Step.{withValue, step}
-use Rattle.model.specs.Cost.{touchAt, old}
+use Rattle.model.specs.Cost.{touchAt}
 use Rattle.model.specs.Event.{touchOf, homeOf, moveOf, viewOf, marked, stepped}
 use Rattle.model.specs.Laws.Tests.{split}
 use Rattle.model.specs.Laws.Own.{home-at}
@@ -38,7 +38,7 @@ pub record Sets (t : Table) (k j : ℕ) : Type 0 where
 -- the test of that; what a step that sets a spin has in hand
 unfoldable pub sets : Table → ℕ → ℕ → Bool
 sets t k j =
-    moveOf t k .sets && not (old (touchOf t k .cell) (portAt t k .work) (portAt t (homeOf t k))) && eqb (homeOf t k) j
+    moveOf t k .sets && latest (portAt t (homeOf t k)) (portAt t k .work .seenspin) && eqb (homeOf t k) j
 
 only-x5 : (q : Point) (v : View) → step q v .sets ≡ true → (x : Tens) × (q ≡ x5 x)
 unfolding step
@@ -77,9 +77,8 @@ sets-only t k j e =
     let b = and-eq-true-iff (moveOf t k .sets) _ .0 (a .0) in
     let x = only-x5 (pointOf (portAt t k .point)) (viewOf t k) (b .0) in
     let here : homeOf t k ≡ j = eqb-true _ _ (a .1) in
-    let young = subst (λ (h : ℕ). not (old (touchOf t k .cell) w (portAt t h)) ≡ true) here (b .1) in
-    let seen = subst (λ (q : Point). not (old (touchAt q .cell) w (portAt t j)) ≡ true) (x .1) young in
-    let last = and-eq-true-iff (eqb (w .seenspin) (portAt t j .made)) _ .0 (not-false _ (not-true _ seen)) in
+    let seen = subst (λ (h : ℕ). latest (portAt t h) (w .seenspin) ≡ true) here (b .1) in
+    let last = and-eq-true-iff (eqb (w .seenspin) (portAt t j .made)) _ .0 seen in
     record {
       tens = x .0;
       point = x .1;
@@ -90,14 +89,14 @@ sets-only t k j e =
 
 -- changing the record at h, where b says so, as it is read at port j
 change-at : (b : Bool) (ps : List Port) (h j : ℕ) (f : Port → Port) → (b && eqb h j ≡ true → j < length ps)
-    → portIn (cond b (set ps h (f (portIn ps h))) ps) j ≡ cond (b && eqb h j) (f (portIn ps j)) (portIn ps j)
+    → getD (cond b (set ps h (f (getD ps h noPort))) ps) j noPort ≡ cond (b && eqb h j) (f (getD ps j noPort)) (getD ps j noPort)
 change-at false ps h j f l = refl
 change-at true ps h j f l =
-    split (λ (p : Port). portIn (set ps h (f (portIn ps h))) j ≡ p)
+    split (λ (p : Port). getD (set ps h (f (getD ps h noPort))) j noPort ≡ p)
     (eqb h j)
     _
     _
-    (λ e. subst (λ (i : ℕ). portIn (set ps i (f (portIn ps i))) j ≡ f (portIn ps j)) (sym (eqb-true h j e))
+    (λ e. subst (λ (i : ℕ). getD (set ps i (f (getD ps i noPort))) j noPort ≡ f (getD ps j noPort)) (sym (eqb-true h j e))
     (getD-set-same ps j _ noPort (l e)))
     (λ e. getD-set-other ps h j _ noPort (λ q. eqb-false h j e (sym q)))
 
@@ -114,7 +113,7 @@ port-after : (t : Table) (k j : ℕ) (p : Port) → portAt (putPort t k (settled
     → portAt (stepped t k .table) j ≡ cond (sets t k j) (withValue 1 p) p
 unfolding stepped marked sets
 port-after t k j p e =
-    change-at (moveOf t k .sets && not (old (touchOf t k .cell) (portAt t k .work) (portAt t (homeOf t k))))
+    change-at (moveOf t k .sets && latest (portAt t (homeOf t k)) (portAt t k .work .seenspin))
     (set (t .ports) k (settled (moveOf t k .own)))
     (homeOf t k)
     j

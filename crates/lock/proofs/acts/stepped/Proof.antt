@@ -7,8 +7,8 @@ returns : tie.Need-returns
 unfolding steppedOn
 returns c =
     rw (
-      c .before .settled .ensures,
-      c .before .before .before .before .old .ensures,
+      c .before .before .settled .ensures,
+      c .before .latest .ensures,
       c .before .before .before .before .before .charge .ensures,
       round (c .before .before .before .before .before .before .before .before .before .before .pre),
       c .before .before .before .before .before .before .kept-copies .ensures,
