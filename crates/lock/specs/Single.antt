@@ -12,7 +12,7 @@ use Rattle.model.specs.declared.Outcome.{Outcome}
 use Rattle.model.specs.declared.Made.{Made}
 use Rattle.model.specs.declared.Answer.{Answer}
 use Rattle.model.specs.declared.Answer.the-variants.{Done, BadTable, NoSuchPort, NoSuchEvent, Busy, Worn, NotInside, Idle, Inside, BadSize, ShortRoom, BadImage}
-use Rattle.model.specs.Event.{numberOf, free, event}
+use Rattle.model.specs.Event.{numberOf, firstOf, refusal, free, event}
 use Rattle.model.specs.Good.{good}
 use Rattle.model.specs.Run.{Order, ran, orders, codeOf, codes, ordersFor, run, runAnswers}
 use Rattle.model.specs.Paid.{paidEvent, paidRan, paidCodes}
@@ -88,7 +88,7 @@ abbrev pub single : ℕ → ℕ → List Order
 single k e = ordersFor (k ∷ e ∷ []) (1 ∷ [])
 
 pub bad-event : (t : Table) (k e : ℕ) → good t ≡ false → event t k e ≡ free BadTable t
-unfolding event
+unfolding event refusal firstOf
 bad-event t k e h = rw h
 
 -- what stands in that place is the event's code: BAD TABLE, or what the run put there

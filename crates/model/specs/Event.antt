@@ -58,7 +58,7 @@ unfoldable pub firstOf : List (Bool × Answer) → Answer
 firstOf [] = Done
 firstOf (r ∷ rs) = cond (r .0) (r .1) (firstOf rs)
 
--- the refusals of an event at a port that there is, lowest first, each with when it is given; and what an event answers on a good table
+-- the refusals of an event at a port that there is, lowest first, each with when it is given; what an event on a table answers
 unfoldable pub refusals : ℕ → Port → List (Bool × Answer)
 refusals e p =
     (not (leb 1 e && leb e 5), NoSuchEvent)
@@ -71,7 +71,7 @@ refusals e p =
 
 unfoldable pub refusal : Table → ℕ → ℕ → Answer
 unfolding firstOf
-refusal t k e = firstOf ((leb (t .shared .d) k, NoSuchPort) ∷ refusals e (portAt t k))
+refusal t k e = firstOf ((not (good t), BadTable) ∷ (leb (t .shared .d) k, NoSuchPort) ∷ refusals e (portAt t k))
 
 -- a port after an event that is no step. E: point 0 becomes 1. X: point becomes 1, working values 0, nothing else. A: flag becomes 1.
 -- L: point 11 becomes 13
@@ -128,12 +128,8 @@ free a t = outcome t 0 0 a
 unfoldable pub carried : Table → ℕ → ℕ → Outcome
 carried t k e = cond (eqb e stepping) (stepped t k) (free Done (putPort t k (ordered e (portAt t k))))
 
--- an event on a good table, and on any
-unfoldable pub eventGood : Table → ℕ → ℕ → Outcome
-eventGood t k e = cond (eqb (numberOf (refusal t k e)) 0) (carried t k e) (free (refusal t k e) t)
-
 unfoldable pub event : Table → ℕ → ℕ → Outcome
-event t k e = cond (good t) (eventGood t k e) (free BadTable t)
+event t k e = cond (eqb (numberOf (refusal t k e)) 0) (carried t k e) (free (refusal t k e) t)
 
 -- a fresh table: D not 1 to the room is BAD SIZE with the fresh table of D = 1
 unfoldable pub fresh : ℕ → Made

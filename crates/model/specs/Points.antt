@@ -74,14 +74,10 @@ unfoldable pub candidateSpinPlace : ℕ → Bool
 unfolding oneOf
 candidateSpinPlace n = oneOf n candidateSpinPoints
 
--- a working value where it has a place, and 0 elsewhere
-abbrev pub kept : Bool → ℕ → ℕ
-kept b x = cond b x 0
-
 -- a port whose working values are 0 wherever they have no place at its point
 unfoldable pub settled : Port → Port
 settled p =
     port (p .point) (p .status) (p .flag) (p .value) (p .made) (p .go)
-    (work (kept (ownPlace (p .point)) (p .work .own))
-    (kept (seenPlace (p .point)) (p .work .seenowner)) (kept (seenPlace (p .point)) (p .work .seenspin))
-    (kept (candidatePlace (p .point)) (p .work .candidate)) (kept (candidateSpinPlace (p .point)) (p .work .candidatespin)))
+    (work (cond (ownPlace (p .point)) (p .work .own) 0)
+    (cond (seenPlace (p .point)) (p .work .seenowner) 0) (cond (seenPlace (p .point)) (p .work .seenspin) 0)
+    (cond (candidatePlace (p .point)) (p .work .candidate) 0) (cond (candidateSpinPlace (p .point)) (p .work .candidatespin) 0))

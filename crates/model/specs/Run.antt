@@ -73,24 +73,19 @@ grants t o =
     stepsAt (o .port) (23 ∷ 33 ∷ 43 ∷ []) t o
     && same (t .shared .word) (word 0 (portAt t (o .port) .work .seenowner) (portAt t (o .port) .work .seenspin))
 
-abbrev pub candidateOf : Table → Order → ℕ
-candidateOf t o = portAt t (o .port) .work .candidate
-
 -- the grants that name others than k, up to the moment when bit k is cleared or a grant names k
 unfoldable pub passedOver : ℕ → Table → List Order → ℕ
 passedOver k t [] = 0
 passedOver k t (o ∷ os) =
-    cond (grants t o && eqb (candidateOf t o) k) 0
+    cond (grants t o && eqb (portAt t (o .port) .work .candidate) k) 0
     (cond (stands (after t o .shared .active) k) (cond (grants t o) 1 0 + passedOver k (after t o) os) 0)
 
 -- what port k's own steps cost in one model, up to its step at 19 or its next crash
-unfoldable pub ends : ℕ → Table → Order → Bool
-ends k t o = done k crash t o || (done k stepping t o && eqb (portAt t k .point) 19)
-
 unfoldable pub passageCost : (Outcome → ℕ) → ℕ → Table → List Order → ℕ
 passageCost cost k t [] = 0
 passageCost cost k t (o ∷ os) =
-    cond (done k stepping t o) (cost (answered t o)) 0 + cond (ends k t o) 0 (passageCost cost k (after t o) os)
+    cond (done k stepping t o) (cost (answered t o)) 0
+    + cond (done k crash t o || (done k stepping t o && eqb (portAt t k .point) 19)) 0 (passageCost cost k (after t o) os)
 
 -- no order of the list is a step of port k
 unfoldable pub stepless : ℕ → List Order → Bool

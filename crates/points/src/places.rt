@@ -5,7 +5,7 @@ use model::Port;
 use model::Touch;
 use model::Work;
 ghost use mathlib.Core.Path.{_≡_};
-ghost use mathlib.Core.Bool.{_&&_};
+ghost use mathlib.Core.Bool.{cond, _&&_};
 ghost use lib.Dec.{ltb};
 ghost use Rattle.model.specs.Mask.{stands};
 ghost use Rattle.model.specs.Points as Points;
@@ -155,13 +155,13 @@ pub fn has(places: u64, n: u8) -> bool
 }
 
 fn kept16(place: bool, x: u16) -> u16
-    ensures { λ r. ⌜ r ≡ Points.kept place x ⌝ }
+    ensures { λ r. ⌜ r ≡ cond place x 0 ⌝ }
 {
     if place { x } else { 0 }
 }
 
 fn kept8(place: bool, x: u8) -> u8
-    ensures { λ r. ⌜ r ≡ Points.kept place x ⌝ }
+    ensures { λ r. ⌜ r ≡ cond place x 0 ⌝ }
 {
     if place { x } else { 0 }
 }

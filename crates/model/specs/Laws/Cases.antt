@@ -15,7 +15,7 @@ use Rattle.model.specs.declared.Answer.the-variants.{Done, BadTable, NoS
 use Rattle.model.specs.Table.{room, most, noWork, portAt, putPort}
 use Rattle.model.specs.Good.{good}
 use Rattle.model.specs.Step.{at, withFlag, withWork}
-use Rattle.model.specs.Event.{numberOf, enter, stepping, crash, callOff, leave, firstOf, refusals, refusal, ordered, stepped, free, carried, eventGood, event}
+use Rattle.model.specs.Event.{numberOf, enter, stepping, crash, callOff, leave, firstOf, refusals, refusal, ordered, stepped, free, carried, event}
 use Rattle.model.specs.Run.{Order, order, answered, after}
 use Rattle.model.specs.Laws.Rules.{shared-rules}
 
@@ -111,16 +111,14 @@ unfolding Unrefused refuses refusals
 unrefused-step p e = steps p (unpassed (refusals stepping p) refl e) .2
 
 module _ (t : Table) (o : Order) where
-  -- what an order answers, by three tests: the table is good, there is no refusal, the event is a step
-  shape : (g r s : Bool) → good t ≡ g → eqb (numberOf (refusal t (o .port) (o .event))) 0 ≡ r → eqb (o .event) stepping ≡ s
+  -- what an order answers, by two tests: there is no refusal, the event is a step
+  shape : (r s : Bool) → eqb (numberOf (refusal t (o .port) (o .event))) 0 ≡ r → eqb (o .event) stepping ≡ s
       → answered t o
-      ≡ cond g
-      (cond r
+      ≡ cond r
       (cond s (stepped t (o .port)) (free Done (putPort t (o .port) (ordered (o .event) (portAt t (o .port))))))
-      (free (refusal t (o .port) (o .event)) t))
-      (free BadTable t)
-  unfolding event eventGood carried
-  shape g r s eg er es = rw (eg, er, es)
+      (free (refusal t (o .port) (o .event)) t)
+  unfolding event carried
+  shape r s er es = rw (er, es)
 
   -- what an answer that is not DONE, and no refusal, say of the order
   refused-by : (a : Answer) → eqb (numberOf a) 0 ≡ false → answered t o ≡ free a t → Refused t o
@@ -133,40 +131,41 @@ module _ (t : Table) (o : Order) where
       }
 
   unrefused : eqb (numberOf (refusal t (o .port) (o .event))) 0 ≡ true
-      → (o .port < t .shared .d) × Unrefused (o .event) (portAt t (o .port))
+      → (good t ≡ true) × (o .port < t .shared .d) × Unrefused (o .event) (portAt t (o .port))
   unfolding refusal refuses refusals Unrefused
   unrefused e =
-      let h = unpassed ((leb (t .shared .d) (o .port), NoSuchPort) ∷ refusals (o .event) (portAt t (o .port))) refl (eqb-true _ _ e) in
-      (leb-false _ _ (h 0), λ i. h (suc i))
+      let h = unpassed ((not (good t), BadTable) ∷ (leb (t .shared .d) (o .port), NoSuchPort) ∷ refusals (o .event) (portAt t (o .port))) refl (eqb-true _ _ e) in
+      (not-false _ (h 0), leb-false _ _ (h 1), λ i. h (suc (suc i)))
 
   -- every order is one of the three
-  by-tests : (g r s : Bool) → good t ≡ g → eqb (numberOf (refusal t (o .port) (o .event))) 0 ≡ r → eqb (o .event) stepping ≡ s → Case t o
+  by-tests : (r s : Bool) → eqb (numberOf (refusal t (o .port) (o .event))) 0 ≡ r → eqb (o .event) stepping ≡ s → Case t o
   unfolding stepped
-  by-tests false r s eg er es = wasRefused (refused-by BadTable refl (shape false r s eg er es))
-  by-tests true false s eg er es = wasRefused (refused-by (refusal t (o .port) (o .event)) er (shape true false s eg er es))
-  by-tests true true false eg er es =
-      let q = shape true true false eg er es in
+  by-tests false s er es = wasRefused (refused-by (refusal t (o .port) (o .event)) er (shape false s er es))
+  by-tests true false er es =
+      let q = shape true false er es in
+      let u = unrefused er in
       wasOrdered
       (record {
-        sound = eg;
-        port = unrefused er .0;
-        fits = le-trans (unrefused er .0) (shared-rules t eg .fits);
-        allowed = allowed (o .event) (portAt t (o .port)) (unrefused er .1) es;
+        sound = u .0;
+        port = u .1;
+        fits = le-trans (u .1) (shared-rules t (u .0) .fits);
+        allowed = allowed (o .event) (portAt t (o .port)) (u .2) es;
         table = ap (λ u. u .table) q;
         cached = ap (λ u. u .cached) q;
         distributed = ap (λ u. u .distributed) q;
         answer = ap (λ u. u .answer) q;
       })
-  by-tests true true true eg er es =
-      let q = shape true true true eg er es in
+  by-tests true true er es =
+      let q = shape true true er es in
+      let u = unrefused er in
       let e : o .event ≡ stepping = eqb-true _ _ es in
-      let can = steps (portAt t (o .port)) (subst (λ (n : ℕ). Unrefused n (portAt t (o .port))) e (unrefused er .1)) in
+      let can = steps (portAt t (o .port)) (subst (λ (n : ℕ). Unrefused n (portAt t (o .port))) e (u .2)) in
       wasStepped
       (record {
-        sound = eg;
+        sound = u .0;
         event = e;
-        port = unrefused er .0;
-        fits = le-trans (unrefused er .0) (shared-rules t eg .fits);
+        port = u .1;
+        fits = le-trans (u .1) (shared-rules t (u .0) .fits);
         busy = can .0;
         outside = can .1;
         unworn = can .2;
@@ -176,7 +175,7 @@ module _ (t : Table) (o : Order) where
       })
 
   pub cases : Case t o
-  cases = by-tests (good t) (eqb (numberOf (refusal t (o .port) (o .event))) 0) (eqb (o .event) stepping) refl refl refl
+  cases = by-tests (eqb (numberOf (refusal t (o .port) (o .event))) 0) (eqb (o .event) stepping) refl refl
 
   -- what holds of the table as it was, of an event that is no step and of a step holds of the table after the order
   pub after-case : (P : Table → Type 0) → P t

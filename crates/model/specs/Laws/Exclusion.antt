@@ -17,7 +17,7 @@ use Rattle.model.specs.Table.{CS, noWork, portAt, putPort, Sized}
 use Rattle.model.specs.Points.{p0, p1, pointOf, oneOf, settled}
 use Rattle.model.specs.Good.{good}
 use Rattle.model.specs.Step.{at, withValue, withWork, step}
-use Rattle.model.specs.Event.{stepping, crash, firstOf, refusals, refusal, ordered, stepped, free, carried, eventGood, event}
+use Rattle.model.specs.Event.{stepping, crash, firstOf, refusals, refusal, ordered, stepped, free, carried, event}
 use Rattle.model.specs.Run.{Order, order, after, ran, done, stepsAt, stepless}
 use Rattle.model.specs.Laws.Rules.{shared-rules}
 use Rattle.model.specs.Laws.Grants.{stepped-done}
@@ -74,11 +74,11 @@ keeps-critical t k o z h =
 -- a crash and a step at 1 are carried out
 module _ (t : Table) (k : ℕ) (g : good t ≡ true) (l : k < t .shared .d) where
   crash-carried : (portAt t k .point ≡ 0 → ⊥) → event t k crash ≡ free Done (putPort t k (at 1 (withWork noWork (portAt t k))))
-  unfolding event eventGood carried refusal refusals firstOf ordered
+  unfolding event carried refusal refusals firstOf ordered
   crash-carried n = rw (g, lt-leb (t .shared .d) k l, ne-eqb (portAt t k .point) 0 n)
 
   step-carried : portAt t k .point ≡ 1 → event t k stepping ≡ stepped t k
-  unfolding event eventGood carried refusal refusals firstOf
+  unfolding event carried refusal refusals firstOf
   step-carried e = rw (g, lt-leb (t .shared .d) k l, e)
 
 -- an order that is no step of a port leaves it at 1

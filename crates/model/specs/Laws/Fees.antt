@@ -26,7 +26,7 @@ use Rattle.model.specs.Points.{Tens, Point, none, p0, p1, p2, p3, p4, p5
 use Rattle.model.specs.Good.{good}
 use Rattle.model.specs.Step.{step}
 use Rattle.model.specs.Cost.{untouched, touchAt, home, cached, charge}
-use Rattle.model.specs.Event.{numberOf, stepping, refusal, touchOf, homeOf, viewOf, moveOf, sharedAfter, copiesAfter, chargeOf, stepped, carried, eventGood, event}
+use Rattle.model.specs.Event.{numberOf, stepping, refusal, touchOf, homeOf, viewOf, moveOf, sharedAfter, copiesAfter, chargeOf, stepped, carried, event}
 use Rattle.model.specs.Laws.Tests.{split}
 use Rattle.model.specs.Laws.Charges.{old, distributed, charge-parts}
 use Rattle.model.specs.Laws.Mask.{joined-own}
@@ -84,11 +84,8 @@ unfolding carried
 carried-cost t k e = split Small (eqb e stepping) _ _ (λ s. step-cost t k) (λ s. nothing)
 
 pub event-cost : (t : Table) (k e : ℕ) → (event t k e .cached ≤ 1) × (event t k e .distributed ≤ 1)
-unfolding event eventGood
-event-cost t k e =
-    split Small (good t) _ _
-    (λ g. split Small (eqb (numberOf (refusal t k e)) 0) _ _ (λ n. carried-cost t k e) (λ n. nothing))
-    (λ g. nothing)
+unfolding event
+event-cost t k e = split Small (eqb (numberOf (refusal t k e)) 0) _ _ (λ n. carried-cost t k e) (λ n. nothing)
 
 -- the charge of a step of port k at point q
 module _ (t : Table) (k : ℕ) where

@@ -12,7 +12,7 @@ use Rattle.model.specs.declared.Port.{Port}
 use Rattle.model.specs.declared.Table.{Table}
 use Rattle.model.specs.declared.View.{View}
 use Rattle.model.specs.Table.{room, CS, EXIT, ABORT, noPort, portAt, putPort, latest, readSpin, freshTable, Sized}
-use Rattle.model.specs.Points.{Tens, two, three, four, Point, none, p0, p1, p2, p3, p4, p5, p6, p8, p9, p10, p11, p12, p13, p14, p15, p16, p17, p18, p19, x0, x1, x2, x3, x4, x5, tens, back, pointOf, ownPlace, kept, settled}
+use Rattle.model.specs.Points.{Tens, two, three, four, Point, none, p0, p1, p2, p3, p4, p5, p6, p8, p9, p10, p11, p12, p13, p14, p15, p16, p17, p18, p19, x0, x1, x2, x3, x4, x5, tens, back, pointOf, ownPlace, settled}
 use Rattle.model.specs.Good.{named}
 use Rattle.model.specs.Step.{at, withFlag, withValue, withWork, up, bit, unasked, step}
 use Rattle.model.specs.Event.{moveOf, ordered, stepped}
@@ -91,7 +91,7 @@ module _ (p : Port) (l : Life p) where
 
 -- port p may come to point n, with own spin o where that has a place there
 abbrev Next : Port → ℕ → ℕ → Type 0
-Next p o n = (named n ≡ true) × Standing (pointOf n) (p .status) (p .go) (kept (ownPlace n) o) (p .value) (p .flag)
+Next p o n = (named n ≡ true) × Standing (pointOf n) (p .status) (p .go) (cond (ownPlace n) o 0) (p .value) (p .flag)
 
 -- a promotion keeps its facts: where it goes back to, and at its points from x1 on
 abbrev Keeps : Tens → Port → ℕ → Type 0

@@ -10,7 +10,7 @@ use Rattle.model.specs.declared.Outcome.{Outcome}
 use Rattle.model.specs.declared.Answer.the-variants.{BadTable, NoSuchPort}
 use Rattle.model.specs.Table.{Sized, portAt}
 use Rattle.model.specs.Good.{sizeGood, good}
-use Rattle.model.specs.Event.{numberOf, firstOf, refusals, refusal, stepping, free, carried, eventGood, event}
+use Rattle.model.specs.Event.{numberOf, firstOf, refusals, refusal, stepping, free, carried, event}
 use Rattle.model.specs.Run.{Order, after, ran, codes}
 use Rattle.model.specs.Paid.{placed, paidAnswer, paidEvent, paidRan, paidCodes}
 use Rattle.model.specs.Laws.Tests.{split}
@@ -46,12 +46,12 @@ module _ (t : Table) (k e : ℕ) (g : good t ≡ true) where
   unfolding paidAnswer refusal firstOf sizeGood
   paid-answer =
       let r = shared-rules t g in
-      rw (le-leb _ _ (r .some), le-leb _ _ (r .fits), r .active) (at-port (leb (t .shared .d) k) refl)
+      rw (g, le-leb _ _ (r .some), le-leb _ _ (r .fits), r .active) (at-port (leb (t .shared .d) k) refl)
 
   -- it is the event
   pub paid-event : paidEvent t k e ≡ event t k e
-  unfolding paidEvent event eventGood
-  paid-event = rw (g, paid-answer)
+  unfolding paidEvent event
+  paid-event = rw paid-answer
 
 pub paid-ran : (t : Table) (os : List Order) → Sized t → good t ≡ true → paidRan t os ≡ ran t os
 unfolding paidRan ran
@@ -66,5 +66,5 @@ paid-codes t (o ∷ os) s g =
 
 -- a port at or above d is refused
 pub no-port : (t : Table) (k e : ℕ) → good t ≡ true → t .shared .d ≤ k → event t k e ≡ free NoSuchPort t
-unfolding event eventGood refusal firstOf
+unfolding event refusal firstOf
 no-port t k e g h = rw (g, le-leb (t .shared .d) k h)

@@ -1,7 +1,7 @@
 -- The passage limit: no passage costs more than 33 in either model, since no order raises the budget of a port, and each of its steps lowers the
 -- budget by its cost.
 use mathlib.Core.Path.{_≡_, refl, sym, _∙_, ap, subst}
-use mathlib.Core.Bool.{Bool, true, false, cond, _||_, false≢true}
+use mathlib.Core.Bool.{Bool, true, false, cond, _&&_, _||_, false≢true}
 use mathlib.Core.List.{List, [], _∷_}
 use Prim.Native.Nat.{ℕ, _+_, _≤_, _<_}
 use native.Mathlib.Nat.{le-refl}
@@ -16,7 +16,7 @@ use Rattle.model.specs.declared.Answer.the-variants.{Done}
 use Rattle.model.specs.Table.{room, portAt, Sized}
 use Rattle.model.specs.Points.{p19, pointOf, settled}
 use Rattle.model.specs.Event.{numberOf, enter, stepping, crash, callOff, leave, ordered, viewOf, moveOf, stepped}
-use Rattle.model.specs.Run.{Order, answered, after, done, ends, passageCost}
+use Rattle.model.specs.Run.{Order, answered, after, done, passageCost}
 use Rattle.model.specs.Laws.Tests.{conjunct, split}
 use Rattle.model.specs.Laws.Cases.{Allowed, enters, crashes, callsOff, leaves, Stepped, Case, wasRefused, wasOrdered, wasStepped, cases, after-case}
 use Rattle.model.specs.Laws.Own.{numberOfPoint, number}
@@ -27,6 +27,10 @@ use Rattle.model.specs.Laws.LifeAfter.{life-after}
 use Rattle.model.specs.Laws.Grants.{done-steps}
 use Rattle.model.specs.Laws.Budget.{budgetAt, hasCopy, budgetLeft, budget, FeeOf, budget-grows, spends}
 use Rattle.model.specs.Laws.Fees.{own-read, fees, own-reads, other-reads}
+
+-- a passage of port k ends with the order: its next crash, or its step at 19
+abbrev ends : ℕ → Table → Order → Bool
+ends k t o = done k crash t o || (done k stepping t o && eqb (portAt t k .point) 19)
 
 -- a step of port k, other than its last at 19, lowers its budget by what it costs
 step-spends : (t : Table) (k : ℕ) → Sized t → k < room → Life (portAt t k) → (portAt t k .point ≡ 19 → ⊥)
@@ -73,7 +77,6 @@ module _ (k : ℕ) (t : Table) (o : Order) (s : Sized t) (l : (j : ℕ) → Life
 
   -- nor does one that is no step of port k and does not end its passage
   unstepped-budget : done k stepping t o ≡ false → ends k t o ≡ false → budget (after t o) k ≤ budget t k
-  unfolding ends
   unstepped-budget d e = elim (ℕ-discrete k (o .port)) [ yes p ↦ own p (cases t o) | no p ↦ other-budget p ]
     where
       own : k ≡ o .port → Case t o → budget (after t o) k ≤ budget t k
@@ -86,7 +89,7 @@ module _ (k : ℕ) (t : Table) (o : Order) (s : Sized t) (l : (j : ℕ) → Life
 
   -- a step of port k ends its passage at 19
   step-ends : Stepped t o → k ≡ o .port → ends k t o ≡ eqb (portAt t k .point) 19
-  unfolding ends done
+  unfolding done
   step-ends c p = rw (c .answer, p, c .event, eq-eqb (o .port) (o .port) refl)
 
   -- every order: what it costs port k, and what is left of its budget unless its passage ends, is no more than the budget

@@ -1,6 +1,6 @@
 -- A record whose working values are settled: it meets all rules where its numbers are within their bounds and its point is allowed.
 use mathlib.Core.Path.{_≡_, refl, _∙_, ap}
-use mathlib.Core.Bool.{Bool, true, false, not, _&&_, _||_, and-eq-true-iff, false≢true}
+use mathlib.Core.Bool.{Bool, true, false, cond, not, _&&_, _||_, and-eq-true-iff, false≢true}
 use mathlib.Core.List.{List, [], _∷_}
 use Prim.Native.Nat.{ℕ, _≤_, zero-le}
 use native.Mathlib.Nat.{le-refl}
@@ -8,7 +8,7 @@ use native.Mathlib.Omega.{arith}
 use lib.Dec.{eqb, ltb}
 use borrow.Author.Tests.{eqb-true}
 use Rattle.model.specs.declared.Port.{Port}
-use Rattle.model.specs.Points.{oneOf, seenPoints, candidatePoints, candidateSpinPoints, ownPlace, seenPlace, candidatePlace, candidateSpinPlace, kept, settled}
+use Rattle.model.specs.Points.{oneOf, seenPoints, candidatePoints, candidateSpinPoints, ownPlace, seenPlace, candidatePlace, candidateSpinPlace, settled}
 use Rattle.model.specs.Good.{implies}
 use Rattle.model.specs.Laws.Sound.{Bounds, Enters, Fit}
 
@@ -30,21 +30,21 @@ included n (m ∷ ms) ns a e = go (eqb n m) refl e (included n ms ns (both .1))
     go false q e f = f e
 
 -- a working value that is kept where it has a place is at most what it was, and is 0 elsewhere
-kept-le : (b : Bool) (x : ℕ) → kept b x ≤ x
+kept-le : (b : Bool) (x : ℕ) → cond b x 0 ≤ x
 kept-le true x = le-refl x
 kept-le false x = zero-le
 
-kept-rests : (b : Bool) (x : ℕ) → implies (not b) (eqb (kept b x) 0) ≡ true
+kept-rests : (b : Bool) (x : ℕ) → implies (not b) (eqb (cond b x 0) 0) ≡ true
 kept-rests true x = refl
 kept-rests false x = refl
 
 -- a spin that has a place only where its port has one stays at most that port's made; one that has a place at x5 stays above 0 there
-kept-spin : (a b : Bool) (made : ℕ → ℕ) (s o : ℕ) → (a ≡ true → b ≡ true) → s ≤ made o → kept a s ≤ made (kept b o)
+kept-spin : (a b : Bool) (made : ℕ → ℕ) (s o : ℕ) → (a ≡ true → b ≡ true) → s ≤ made o → cond a s 0 ≤ made (cond b o 0)
 kept-spin true true made s o f h = h
 kept-spin true false made s o f h = absurd (false≢true (f refl))
 kept-spin false b made s o f h = zero-le
 
-kept-above : (a b : Bool) (s : ℕ) → (a ≡ true → b ≡ true) → implies a (ltb 0 s) ≡ true → implies a (ltb 0 (kept b s)) ≡ true
+kept-above : (a b : Bool) (s : ℕ) → (a ≡ true → b ≡ true) → implies a (ltb 0 s) ≡ true → implies a (ltb 0 (cond b s 0)) ≡ true
 kept-above true true s f h = h
 kept-above true false s f h = absurd (false≢true (f refl))
 kept-above false b s f h = refl

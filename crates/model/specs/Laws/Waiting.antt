@@ -16,7 +16,7 @@ use Rattle.model.specs.Points.{p6, pointOf, candidatePlace, settled}
 use Rattle.model.specs.Good.{good}
 use Rattle.model.specs.Step.{step}
 use Rattle.model.specs.Event.{stepping, ordered, viewOf, moveOf, stepped}
-use Rattle.model.specs.Run.{Order, order, after, done, grants, candidateOf, passedOver}
+use Rattle.model.specs.Run.{Order, order, after, done, grants, passedOver}
 use Rattle.model.specs.Laws.Tests.{split}
 use Rattle.model.specs.Laws.Mask.{within-lt, set-own}
 use Rattle.model.specs.Laws.Rules.{shared-rules, port-rules}
@@ -27,6 +27,10 @@ use Rattle.model.specs.Laws.Ports.{put-own, put-other, Left, own-left, o
 use Rattle.model.specs.Laws.Grants.{done-steps, refused-grants, ordered-grants, stepped-grants}
 use Rattle.model.specs.Laws.Interval.{potential, potential-pos, potential-le, potential-stays, potential-falls}
 use Rattle.model.specs.Laws.Turn.{strays, Turn, keeps, passes, turn}
+
+-- the port that a grant names
+abbrev candidateOf : Table → Order → ℕ
+candidateOf t o = portAt t (o .port) .work .candidate
 
 -- the potential of port k in a table of d ports: of the ports that pass k over, and of the way from the word's owner to k.
 -- From table t to table u it does not rise, and where b says so it falls
