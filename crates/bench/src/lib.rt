@@ -46,9 +46,9 @@ pub extern "C" fn bench_run(d: u64, orders: &[u64], answers: &mut [u64]) -> u64
     ensures { λ r. ⌜ r ≡ Event.numberOf (Event.fresh d .answer) ⌝ }
     ensures { λ r. ⌜ now (answers .exit) ≡ Run.runAnswers (Event.fresh d .table) (Run.ordersFor (now (orders .entry)) (now (answers .entry))) (now (answers .entry)) ⌝ }
 {
-    let made = events::fresh(d);
-    let answer = made.answer;
-    let table = made.table;
+    let start = events::fresh(d);
+    let answer = start.answer;
+    let table = start.table;
     let r = runs::run(table, orders, answers);
     answers::number(answer)
 }
