@@ -37,7 +37,7 @@ some : (n : ℕ) → suc n ≡ 0 → ⊥
 some n z = omega (arith, z)
 
 pub passed : (s : Shared) (k e : ℕ) (p : Port) → numberOf (paidAnswer s k e p) ≡ 0 → Passed s k e p
-unfolding paidAnswer sizeGood placed
+unfolding paidAnswer firstOf sizeGood placed
 passed s k e p h = shares (leb 1 (s .d) && leb (s .d) room && within (s .d) (s .active)) refl
   where
     places : leb 1 (s .d) && leb (s .d) room && within (s .d) (s .active) ≡ true → leb (s .d) k ≡ false
@@ -67,7 +67,7 @@ passed s k e p h = shares (leb 1 (s .d) && leb (s .d) room && within (s .d) (s .
 
 -- whatever port's record is looked at where there is no port k, the answer is the same
 pub any-record : (t : Table) (k e r : ℕ) → (k < room → r ≡ k) → paidAnswer (t .shared) k e (portAt t r) ≡ paidAnswer (t .shared) k e (portAt t k)
-unfolding paidAnswer sizeGood
+unfolding paidAnswer firstOf sizeGood
 any-record t k e r h = go (leb room k) refl
   where
     go : (b : Bool) → leb room k ≡ b → paidAnswer (t .shared) k e (portAt t r) ≡ paidAnswer (t .shared) k e (portAt t k)

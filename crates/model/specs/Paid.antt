@@ -1,5 +1,5 @@
 -- Orders on a table whose check has been paid before: only what a step needs in order to be carried out is looked at. On a good table they are the events.
-use mathlib.Core.Bool.{Bool, cond, _&&_}
+use mathlib.Core.Bool.{Bool, cond, not, _&&_}
 use mathlib.Core.List.{List, [], _∷_}
 use Prim.Native.Nat.{ℕ}
 use lib.Dec.{eqb, leb, ltb}
@@ -22,9 +22,8 @@ placed d p = ltb (p .work .seenowner) d && ltb (p .work .candidate) d && leb (p 
 -- what an order answers from what all share and its port: BAD TABLE where a step would not have its places
 unfoldable pub paidAnswer : Shared → ℕ → ℕ → Port → Answer
 paidAnswer s k e p =
-    cond (sizeGood (s .d) && within (s .d) (s .active))
-    (cond (leb (s .d) k) NoSuchPort (cond (placed (s .d) p) (firstOf (refusals e p)) BadTable))
-    BadTable
+    firstOf ((not (sizeGood (s .d) && within (s .d) (s .active)), BadTable)
+    ∷ (leb (s .d) k, NoSuchPort) ∷ (not (placed (s .d) p), BadTable) ∷ refusals e p)
 
 unfoldable pub paidEvent : Table → ℕ → ℕ → Outcome
 paidEvent t k e =

@@ -4,7 +4,7 @@ use mathlib.Core.Bool.{true, false, _&&_}
 use borrow.Author.Tests.{le-leb, lt-leb, not-true, not-false}
 use Rattle.model.specs.Mask.{within}
 use Rattle.model.specs.Good.{sizeGood}
-use Rattle.model.specs.Event.{numberOf}
+use Rattle.model.specs.Event.{numberOf, firstOf}
 use Rattle.model.specs.Paid.{placed, paidAnswer}
 use Rattle.answers.proofs.first.Statement.{statement}
 use Rattle.answers.proofs.first.Tie as tie
@@ -17,20 +17,20 @@ unshared : (c : tie.Then1) → (sizeGood (c .before .before .before .args .s .d)
 unshared c = rw (← (c .before .before .size-good .ensures), ← (c .before .within .ensures)) (not-true _ (c .if1 .taken))
 
 returns : tie.Need-returns
-unfolding paidAnswer
+unfolding paidAnswer firstOf
 returns c = rw (unshared c)
 
 returns-2 : tie.Need-returns-2
-unfolding paidAnswer
+unfolding paidAnswer firstOf
 returns-2 c = rw (shares (c .before), le-leb _ _ (c .if2 .taken))
 
 returns-3 : tie.Need-returns-3
-unfolding paidAnswer
+unfolding paidAnswer firstOf
 returns-3 c =
     rw (shares (c .before .before .before), lt-leb _ _ (c .before .before .if2 .left), sym (c .before .placed .ensures) ∙ not-true _ (c .if3 .taken))
 
 returns-4 : tie.Need-returns-4
-unfolding paidAnswer
+unfolding paidAnswer firstOf
 returns-4 c =
     let e = c .before .before in
     rw (shares (e .before .before .before), lt-leb _ _ (e .before .before .if2 .left), sym (e .before .placed .ensures) ∙ not-false _ (e .if3 .left))

@@ -1,6 +1,6 @@
 -- On a good table the orders of a run whose check has been paid are the events.
 use mathlib.Core.Path.{_≡_, refl}
-use mathlib.Core.Bool.{Bool, true, false, cond}
+use mathlib.Core.Bool.{Bool, true, false, cond, not}
 use mathlib.Core.List.{List, [], _∷_}
 use Prim.Native.Nat.{ℕ, _≤_}
 use borrow.Author.Tests.{leb-false, le-leb, lt-ltb}
@@ -35,7 +35,7 @@ paid-cost t k e = split Small (eqb (numberOf (paidAnswer (t .shared) k e (portAt
 module _ (t : Table) (k e : ℕ) (g : good t ≡ true) where
   -- what it answers, at a port that there is and at one that there isn't
   at-port : (b : Bool) → leb (t .shared .d) k ≡ b
-      → cond b NoSuchPort (cond (placed (t .shared .d) (portAt t k)) (firstOf (refusals e (portAt t k))) BadTable) ≡ cond b NoSuchPort (firstOf (refusals e (portAt t k)))
+      → cond b NoSuchPort (cond (not (placed (t .shared .d) (portAt t k))) BadTable (firstOf (refusals e (portAt t k)))) ≡ cond b NoSuchPort (firstOf (refusals e (portAt t k)))
   unfolding placed
   at-port true q = refl
   at-port false q =
