@@ -1,18 +1,19 @@
 -- The calls from C and Rust, over images in lent buffers: what each answers, in document 01's numbers, and what stands in each buffer after it.
-use mathlib.Core.Bool.{Bool, cond}
-use mathlib.Core.List.{List, [], _∷_}
+use mathlib.Core.Bool.{cond}
+use mathlib.Core.List.{List, [], _∷_, foldl}
 use Prim.Native.Nat.{ℕ, _+_, _*_}
+use lib.Dec.{eqb}
 use lib.ListN.{length}
 use lib.Seq.{sets}
 use Rattle.model.specs.declared.Outcome.{Outcome}
 use Rattle.model.specs.declared.Answer.{Answer}
-use Rattle.model.specs.Event.{numberOf, fresh, event}
+use Rattle.model.specs.Event.{numberOf, free, fresh, event}
 use Rattle.model.specs.Run.{Order, codeOf}
-use Rattle.image.specs.Image.{isDone, encode, decode, writeAnswer, written, roomAfter}
+use Rattle.image.specs.Image.{encode, decode, writeAnswer, written, roomAfter}
 
 -- yarvelow_fresh: BAD SIZE, then SHORT ROOM; the answer's number and 256 times the image's length
 unfoldable pub freshAnswer : ℕ → ℕ → Answer
-freshAnswer d n = cond (isDone (fresh d .answer)) (writeAnswer (fresh d .table) n) (fresh d .answer)
+freshAnswer d n = cond (eqb (numberOf (fresh d .answer)) 0) (writeAnswer (fresh d .table) n) (fresh d .answer)
 
 unfoldable pub freshCall : ℕ → ℕ → ℕ
 freshCall d n = numberOf (freshAnswer d n) + 256 * written (freshAnswer d n) (fresh d .table) .length
@@ -21,21 +22,18 @@ unfoldable pub freshRoom : ℕ → List ℕ → List ℕ
 freshRoom d room = roomAfter (freshAnswer d (length room)) (fresh d .table) room
 
 -- yarvelow_check: the reader's number
-abbrev pub accepted : List ℕ → Bool
-accepted image = isDone (decode image .answer)
-
 unfoldable pub checkCall : List ℕ → ℕ
 checkCall image = numberOf (decode image .answer)
 
 -- yarvelow_event: the reader's refusals, then the event's. Done, the image of the table after it; refused, every byte as it was
 abbrev pub eventOn : List ℕ → ℕ → ℕ → Outcome
-eventOn image k e = event (decode image .table) k e
+eventOn bs k e = cond (eqb (checkCall bs) 0) (event (decode bs .table) k e) (free (decode bs .answer) (decode bs .table))
 
 unfoldable pub eventCall : List ℕ → ℕ → ℕ → ℕ
-eventCall image k e = cond (accepted image) (codeOf (eventOn image k e)) (checkCall image)
+eventCall image k e = codeOf (eventOn image k e)
 
 unfoldable pub eventImage : List ℕ → ℕ → ℕ → List ℕ
-eventImage image k e = cond (accepted image) (cond (isDone (eventOn image k e .answer)) (encode (eventOn image k e .table)) image) image
+eventImage image k e = cond (eqb (numberOf (eventOn image k e .answer)) 0) (encode (eventOn image k e .table)) image
 
 -- that many calls of yarvelow_event, one after the other: what they answer, and the image after the last
 unfoldable pub calls : List ℕ → List Order → List ℕ
@@ -43,9 +41,8 @@ calls image [] = []
 calls image (o ∷ os) = eventCall image (o .port) (o .event) ∷ calls (eventImage image (o .port) (o .event)) os
 
 unfoldable pub callsImage : List ℕ → List Order → List ℕ
-callsImage image [] = image
-callsImage image (o ∷ os) = callsImage (eventImage image (o .port) (o .event)) os
+callsImage image os = foldl (λ now o. eventImage now (o .port) (o .event)) image os
 
 -- yarvelow_run answers the reader's number. Its image is that of as many calls; where the reader refuses, the places for answers stay as they were
 unfoldable pub runPlaces : List ℕ → List Order → List ℕ → List ℕ
-runPlaces image os places = cond (accepted image) (sets places 0 (calls image os)) places
+runPlaces image os places = cond (eqb (checkCall image) 0) (sets places 0 (calls image os)) places

@@ -24,12 +24,13 @@ use Rattle.lock.specs.Single.{bad-event, code-number}
 use Rattle.layout.specs.Bytes.{Bytes}
 use Rattle.layout.specs.Layout.{size}
 use Rattle.image.specs.declared.Written.{Written}
-use Rattle.image.specs.Image.{isDone, isImage, encode, opened, decode, refused, putAnswer, writeAnswer, written, roomAfter, Puts}
+use Rattle.image.specs.Image.{isImage, encode, opened, decode, refused, putAnswer, writeAnswer, written, roomAfter}
 use Rattle.image.specs.Laws.Writing.{length-encode}
 use Rattle.image.specs.Laws.Reading.{sets-whole}
-use Rattle.image.specs.Laws.Promises.{size-is, put-done, opened-encoded, opened-size, opened-sized}
+use Rattle.image.specs.Laws.Sound.{decode-by-tests}
+use Rattle.image.specs.Laws.Promises.{Puts, size-is, put-done, opened-encoded, opened-size, opened-sized}
 use Rattle.image.specs.Laws.RoundTrip.{decode-encode}
-use Rattle.cabi.specs.Calls.{freshAnswer, freshCall, freshRoom, accepted, checkCall, eventCall, eventImage, calls, callsImage, runPlaces}
+use Rattle.cabi.specs.Calls.{freshAnswer, freshCall, freshRoom, checkCall, eventCall, eventImage, calls, callsImage, runPlaces}
 
 some : (n : ℕ) → suc n ≡ 0 → ⊥
 some n z = omega (arith, z)
@@ -52,31 +53,26 @@ is-done BadImage h = absurd (some 10 h)
 -- what the reader answers: of bytes that are no image, of a bad table, and of a good one
 module _ (bs : List ℕ) where
   pub no-image : (numberOf (opened bs .answer) ≡ 0 → ⊥) → decode bs ≡ opened bs
-  unfolding opened decode
+  unfolding opened
   no-image n = go (isImage bs) refl
     where
       go : (b : Bool) → isImage bs ≡ b → decode bs ≡ opened bs
       go true q =
           let e : numberOf (opened bs .answer) ≡ 0 = rw q in
           absurd (n e)
-      go false q = rw q
+      go false q = decode-by-tests bs ∙ rw q
 
-  module _ (h : opened bs .answer ≡ Done) where
-    pub bad-table : good (opened bs .table) ≡ false → decode bs ≡ refused BadTable
-    unfolding opened decode
-    bad-table g = go (isImage bs) refl
-      where
-        go : (b : Bool) → isImage bs ≡ b → decode bs ≡ refused BadTable
-        go true q = rw q (rw (rw q at g))
-        go false q = absurd (some 10 (ap numberOf (rw q at h)))
+  pub bad-table : good (opened bs .table) ≡ false → decode bs ≡ refused BadTable
+  unfolding decode
+  bad-table g = rw g
 
-    pub good-table : good (opened bs .table) ≡ true → decode bs ≡ record { table = opened bs .table; answer = Done }
-    unfolding opened decode
-    good-table g = go (isImage bs) refl
-      where
-        go : (b : Bool) → isImage bs ≡ b → decode bs ≡ record { table = opened bs .table; answer = Done }
-        go true q = rw q (rw (rw q at g))
-        go false q = absurd (some 10 (ap numberOf (rw q at h)))
+  pub good-table : opened bs .answer ≡ Done → good (opened bs .table) ≡ true → decode bs ≡ record { table = opened bs .table; answer = Done }
+  unfolding decode
+  good-table h g = rw g (ap (λ (a : Answer). record { table = opened bs .table; answer = a }) h)
+
+-- the reader takes the bytes
+abbrev accepted : List ℕ → Bool
+accepted bs = eqb (checkCall bs) 0
 
 -- yarvelow_check, and where the reader refuses: an event and a run answer its number and leave every byte
 pub check-refused : (bs : List ℕ) (n : ℕ) → (n ≡ 0 → ⊥) → n ≡ numberOf (decode bs .answer) → (n ≡ checkCall bs) × (accepted bs ≡ false)
@@ -84,8 +80,8 @@ unfolding checkCall
 check-refused bs n z e = (e, ne-eqb (numberOf (decode bs .answer)) 0 (λ h. z (e ∙ h)))
 
 pub event-unread : (bs : List ℕ) (k e n : ℕ) → (n ≡ checkCall bs) × (accepted bs ≡ false) → (n ≡ eventCall bs k e) × (bs ≡ eventImage bs k e)
-unfolding eventCall eventImage
-event-unread bs k e n h = (h .0 ∙ rw (h .1), rw (h .1))
+unfolding checkCall codeOf eventCall eventImage
+event-unread bs k e n h = (h .0 ∙ rw (h .1) (omega arith), rw (h .1, h .1))
 
 -- a table of as many ports, put where the image stood, gives its image
 put-back : (bs : List ℕ) → opened bs .answer ≡ Done → (u : Table) → Sized u → u .shared .d ≡ opened bs .table .shared .d
@@ -100,13 +96,13 @@ put-back bs h u s d w next p =
 module _ (bs : List ℕ) (h : opened bs .answer ≡ Done) (k e : ℕ) where
   event-on-good : good (opened bs .table) ≡ true
       → (eventCall bs k e ≡ codeOf (event (opened bs .table) k e))
-      × (eventImage bs k e ≡ cond (isDone (event (opened bs .table) k e .answer)) (encode (event (opened bs .table) k e .table)) bs)
-  unfolding eventCall eventImage
+      × (eventImage bs k e ≡ cond (eqb (numberOf (event (opened bs .table) k e .answer)) 0) (encode (event (opened bs .table) k e .table)) bs)
+  unfolding checkCall eventCall eventImage
   event-on-good g = (rw (good-table bs h g), rw (good-table bs h g))
 
   event-on-bad : good (opened bs .table) ≡ false → (numberOf (event (opened bs .table) k e .answer) ≡ checkCall bs) × (accepted bs ≡ false)
   unfolding checkCall
-  event-on-bad g = (rw (bad-event (opened bs .table) k e g, bad-table bs h g), rw (bad-table bs h g))
+  event-on-bad g = (rw (bad-event (opened bs .table) k e g, bad-table bs g), rw (bad-table bs g))
 
   -- what it answers is the event's code
   event-code : eventCall bs k e ≡ codeOf (event (opened bs .table) k e)
@@ -161,7 +157,7 @@ module _ (d : ℕ) (out : List ℕ) where
   -- its length is small
   pub fresh-length : (w : Written) (next : List ℕ) → Puts (fresh d .table) out w next → w .length ≤ 30 + 22 * room
   unfolding written
-  fresh-length w next p = rw (p .0) (go (isDone (putAnswer (fresh d .table) (length out))))
+  fresh-length w next p = rw (p .0) (go (eqb (numberOf (putAnswer (fresh d .table) (length out))) 0))
     where
       go : (b : Bool) → cond b (size (fresh d .table .shared .d)) 0 ≤ 30 + 22 * room
       go true = omega (arith, size-is (fresh d .table .shared .d), shared-rules (fresh d .table) (made-good d) .fits)
@@ -170,7 +166,7 @@ module _ (d : ℕ) (out : List ℕ) where
 -- that many calls on the image of a good table are that many events on the table
 step-calls : (t : Table) (k e : ℕ) → Sized t → good t ≡ true
     → (eventCall (encode t) k e ≡ codeOf (event t k e)) × (eventImage (encode t) k e ≡ encode (event t k e .table))
-unfolding eventCall eventImage
+unfolding checkCall eventCall eventImage
 step-calls t k e s g = (rw (decode-encode t s g), rw (decode-encode t s g) (go (eqb (numberOf (event t k e .answer)) 0) refl))
   where
     go : (b : Bool) → eqb (numberOf (event t k e .answer)) 0 ≡ b → cond b (encode (event t k e .table)) (encode t) ≡ encode (event t k e .table)
@@ -188,9 +184,10 @@ calls-run t (o ∷ os) s g =
 
 -- and where the reader refuses, none of them changes the image
 pub calls-unread : (bs : List ℕ) (os : List Order) → accepted bs ≡ false → bs ≡ callsImage bs os
-unfolding callsImage eventImage
+unfolding callsImage
 calls-unread bs [] h = refl
-calls-unread bs (o ∷ os) h = rw h (calls-unread bs os h)
+calls-unread bs (o ∷ os) h =
+    calls-unread bs os h ∙ ap (λ (b : List ℕ). callsImage b os) (event-unread bs (o .port) (o .event) (checkCall bs) (refl, h) .1)
 
 -- yarvelow_check where the bytes are an image: a run of no orders looks at the table
 pub check-open : (bs : List ℕ) (os : List Order) → opened bs .answer ≡ Done → numberOf (run (opened bs .table) os .answer) ≡ checkCall bs
@@ -199,7 +196,7 @@ check-open bs os h = go (good (opened bs .table)) refl
   where
     go : (b : Bool) → good (opened bs .table) ≡ b → numberOf (run (opened bs .table) os .answer) ≡ checkCall bs
     go true g = rw (g, good-table bs h g)
-    go false g = rw (g, bad-table bs h g)
+    go false g = rw (g, bad-table bs g)
 
 -- yarvelow_run where the reader refuses
 pub run-unread : (bs : List ℕ) (os : List Order) (places : List ℕ) (n : ℕ) → (n ≡ checkCall bs) × (accepted bs ≡ false)
@@ -220,7 +217,7 @@ module _ (bs : List ℕ) (f : Bytes bs) (h : opened bs .answer ≡ Done) (os : L
       go true g =
           let e : numberOf (run (opened bs .table) os .answer) ≡ 0 = rw g in
           absurd (n e)
-      go false g = (rw (g, bad-table bs h g), (calls-unread bs os (rw (bad-table bs h g)), rw (g, bad-table bs h g)))
+      go false g = (rw (g, bad-table bs g), (calls-unread bs os (rw (bad-table bs g)), rw (g, bad-table bs g)))
 
   -- a good one
   pub run-done : numberOf (run (opened bs .table) os .answer) ≡ 0 → (w : Written) (next : List ℕ) → Puts (run (opened bs .table) os .table) bs w next

@@ -1,15 +1,17 @@
 -- What is proved of the calls, for a reader who knows the definitions in Calls and no proof.
-use mathlib.Core.Path.{_≡_, sym, _∙_}
+use mathlib.Core.Path.{_≡_, refl, sym, _∙_}
 use mathlib.Core.Bool.{true, false}
 use mathlib.Core.List.{List}
 use Prim.Native.Nat.{ℕ}
+use lib.Dec.{eqb}
 use Rattle.model.specs.declared.Table.{Table}
 use Rattle.model.specs.Table.{Sized}
 use Rattle.model.specs.Good.{good}
+use Rattle.model.specs.Event.{numberOf}
 use Rattle.model.specs.Run.{Order, ran, codes}
-use Rattle.image.specs.Image.{isDone, encode}
-use Rattle.cabi.specs.Calls.{freshCall, freshRoom, accepted, checkCall, eventOn, eventCall, eventImage, calls, callsImage, runPlaces}
-use Rattle.cabi.specs.Laws.{calls-run, calls-unread}
+use Rattle.image.specs.Image.{encode}
+use Rattle.cabi.specs.Calls.{freshCall, freshRoom, checkCall, eventOn, eventCall, eventImage, calls, callsImage, runPlaces}
+use Rattle.cabi.specs.Laws.{event-unread, calls-run, calls-unread}
 
 -- Two results that meet a promise are equal, and so are two contents of each buffer
 pub fresh-one : (d n : ℕ) (r s : ℕ) → r ≡ freshCall d n → s ≡ freshCall d n → r ≡ s
@@ -34,15 +36,14 @@ pub run-answers-one : (image : List ℕ) (os : List Order) (places r s : List �
 run-answers-one image os places r s p q = p ∙ sym q
 
 -- A refusal leaves every byte: an event that the reader or the event itself refuses, and a run that the reader refuses, with its places for answers
-pub event-leaves : (image : List ℕ) (k e : ℕ) → accepted image ≡ true → isDone (eventOn image k e .answer) ≡ false → eventImage image k e ≡ image
+pub event-leaves : (image : List ℕ) (k e : ℕ) → eqb (numberOf (eventOn image k e .answer)) 0 ≡ false → eventImage image k e ≡ image
 unfolding eventImage
-event-leaves image k e h n = rw (h, n)
+event-leaves image k e n = rw n
 
-pub event-unread-leaves : (image : List ℕ) (k e : ℕ) → accepted image ≡ false → eventImage image k e ≡ image
-unfolding eventImage
-event-unread-leaves image k e h = rw h
+pub event-unread-leaves : (image : List ℕ) (k e : ℕ) → eqb (checkCall image) 0 ≡ false → eventImage image k e ≡ image
+event-unread-leaves image k e h = sym (event-unread image k e (checkCall image) (refl, h) .1)
 
-pub run-leaves : (image : List ℕ) (os : List Order) (places : List ℕ) → accepted image ≡ false
+pub run-leaves : (image : List ℕ) (os : List Order) (places : List ℕ) → eqb (checkCall image) 0 ≡ false
     → (callsImage image os ≡ image) × (runPlaces image os places ≡ places)
 unfolding runPlaces
 run-leaves image os places h = (sym (calls-unread image os h), rw h)

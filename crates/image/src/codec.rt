@@ -5,8 +5,7 @@ ghost use Prim.Native.Nat.{_+_, _≤_};
 ghost use lib.ListN.{length, take, drop};
 ghost use lib.Seq.{sets};
 ghost use Rattle.layout.specs.Bytes.{little, value, sum, pack, unpack};
-ghost use Rattle.image.specs.Image.{same};
-ghost use Rattle.image.specs.Laws.Rows.{narrow};
+ghost use Rattle.image.specs.Laws.Rows.{same, narrow};
 
 pub fn wide(x: u8) -> u64
     ensures { λ r. ⌜ r ≡ x ⌝ }

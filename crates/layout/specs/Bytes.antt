@@ -1,6 +1,6 @@
 -- Numbers as bytes, little end first, and records of fields of given widths.
-use mathlib.Core.List.{List, [], _∷_, _++_}
-use Prim.Native.Nat.{ℕ, zero, suc, _+_, _*_, _/_, _%_, _^_, _<_}
+use mathlib.Core.List.{List, [], _∷_, _++_, foldr}
+use Prim.Native.Nat.{ℕ, zero, suc, _+_, _*_, _/_, _%_, _<_}
 use lib.ListN.{getD, take, drop}
 
 -- bytes are below 256
@@ -18,8 +18,7 @@ value (b ∷ bs) = b + 256 * value bs
 
 -- how many bytes a record of such widths takes
 unfoldable pub sum : List ℕ → ℕ
-sum [] = 0
-sum (w ∷ ws) = w + sum ws
+sum ws = foldr _+_ 0 ws
 
 -- the bytes of a record: those of each value, at its width; and the values that stand at the start of bytes
 unfoldable pub pack : List ℕ → List ℕ → List ℕ
@@ -30,16 +29,7 @@ unfoldable pub unpack : List ℕ → List ℕ → List ℕ
 unpack [] bs = []
 unpack (w ∷ ws) bs = value (take w bs) ∷ unpack ws (drop w bs)
 
--- records of the same widths, one straight after the other
-unfoldable pub packs : List ℕ → List (List ℕ) → List ℕ
-packs ws [] = []
-packs ws (vs ∷ vss) = pack ws vs ++ packs ws vss
-
+-- n records of the same widths, one straight after the other
 unfoldable pub unpacks : List ℕ → ℕ → List ℕ → List (List ℕ)
 unpacks ws zero bs = []
 unpacks ws (suc n) bs = unpack ws bs ∷ unpacks ws n (drop (sum ws) bs)
-
--- the values from i on, each cut to its width
-abbrev pub cut : ℕ → List ℕ → List ℕ → List ℕ
-cut i [] vs = []
-cut i (w ∷ ws) vs = (getD vs i 0 % 256 ^ w) ∷ cut (suc i) ws vs

@@ -21,19 +21,8 @@ unfoldable pub portWidths : List ℕ
 portWidths = 1 ∷ 1 ∷ 1 ∷ 1 ∷ 2 ∷ 2 ∷ 2 ∷ 1 ∷ 2 ∷ 1 ∷ 2 ∷ []
 
 unfoldable pub portValues : Port → List ℕ
-portValues p =
-    p .point
-    ∷ p .status
-    ∷ p .flag
-    ∷ p .value
-    ∷ p .made
-    ∷ p .go
-    ∷ p .work .own
-    ∷ p .work .seenowner
-    ∷ p .work .seenspin
-    ∷ p .work .candidate
-    ∷ p .work .candidatespin
-    ∷ []
+portValues p = p .point ∷ p .status ∷ p .flag ∷ p .value ∷ p .made ∷ p .go
+    ∷ p .work .own ∷ p .work .seenowner ∷ p .work .seenspin ∷ p .work .candidate ∷ p .work .candidatespin ∷ []
 
 -- the copy sets that all share: of ACTIVE, of the word
 unfoldable pub copiedWidths : List ℕ
@@ -51,12 +40,10 @@ copiesValues c = c .status ∷ c .go ∷ c .spin ∷ []
 
 -- the same fields, from their values
 unfoldable pub sharedOf : ℕ → List ℕ → List ℕ → Shared
-sharedOf d vs cs =
-    shared (getD vs 0 0) (getD cs 0 0) (getD cs 1 0) d (word (getD vs 1 0) (getD vs 2 0) (getD vs 3 0))
+sharedOf d vs cs = shared (getD vs 0 0) (getD cs 0 0) (getD cs 1 0) d (word (getD vs 1 0) (getD vs 2 0) (getD vs 3 0))
 
 unfoldable pub portOf : List ℕ → Port
-portOf vs =
-    port (getD vs 0 0) (getD vs 1 0) (getD vs 2 0) (getD vs 3 0) (getD vs 4 0) (getD vs 5 0)
+portOf vs = port (getD vs 0 0) (getD vs 1 0) (getD vs 2 0) (getD vs 3 0) (getD vs 4 0) (getD vs 5 0)
     (work (getD vs 6 0) (getD vs 7 0) (getD vs 8 0) (getD vs 9 0) (getD vs 10 0))
 
 unfoldable pub copiesOf : List ℕ → Copies
@@ -66,33 +53,22 @@ copiesOf vs = copies (getD vs 0 0) (getD vs 1 0) (getD vs 2 0)
 unfoldable pub version : ℕ
 version = 1
 
--- the head: version, D, and the contents, start and length of each of the three bodies
+-- the head: version, D, and the contents: start and length of each of the three bodies
 unfoldable pub headWidths : List ℕ
 headWidths = 1 ∷ 1 ∷ 2 ∷ 2 ∷ 2 ∷ 2 ∷ 2 ∷ 2 ∷ []
 
--- the lengths of the bodies for d ports: shared, ports, copies
-unfoldable pub bodies : ℕ → List ℕ
-bodies d = sum sharedWidths ∷ (d * sum portWidths) ∷ (sum copiedWidths + d * sum copiesWidths) ∷ []
-
--- start and length of bodies that follow one another from a byte on, without gaps
-unfoldable pub contents : ℕ → List ℕ → List ℕ
-contents start [] = []
-contents start (n ∷ ns) = start ∷ n ∷ contents (start + n) ns
-
-unfoldable pub headValues : ℕ → List ℕ
-headValues d = version ∷ d ∷ contents (sum headWidths) (bodies d)
-
--- where the records of the image of d ports stand: shared straight after the head; then port k; after port d the copy sets that all share; then those of
--- port k
-unfoldable pub sharedPlace : ℕ
-sharedPlace = sum headWidths
-
+-- where the records of the image of d ports stand, without gaps: shared straight after the head; then port k; after port d the copy sets that all share; then
+-- those of port k; and the length of the image
 unfoldable pub portPlace : ℕ → ℕ
-portPlace k = sharedPlace + sum sharedWidths + k * sum portWidths
+portPlace k = sum headWidths + sum sharedWidths + k * sum portWidths
 
 unfoldable pub copiesPlace : ℕ → ℕ → ℕ
 copiesPlace d k = portPlace d + sum copiedWidths + k * sum copiesWidths
 
--- the length of the image of d ports
 unfoldable pub size : ℕ → ℕ
-size d = sum headWidths + sum (bodies d)
+size d = copiesPlace d d
+
+-- the bodies: shared, ports, copies
+unfoldable pub headValues : ℕ → List ℕ
+headValues d = version ∷ d ∷ sum headWidths ∷ sum sharedWidths ∷ portPlace 0 ∷ (d * sum portWidths)
+    ∷ portPlace d ∷ (sum copiedWidths + d * sum copiesWidths) ∷ []

@@ -1,14 +1,14 @@
--- Two results that meet the promise of a function of this crate are equal: each promise gives one value at every argument.
+-- What is proved of the layout. Two results that meet the promise of a function of this crate are equal: each promise gives one value at every argument.
 use mathlib.Core.Path.{_≡_}
-use mathlib.Core.List.{List, _∷_}
-use Prim.Native.Nat.{ℕ}
-use lib.ListN.{getD, drop}
+use mathlib.Core.List.{List}
+use Prim.Native.Nat.{ℕ, _+_, _*_}
+use native.Mathlib.Omega.{arith}
 use Rattle.model.specs.declared.Port.{Port}
 use Rattle.model.specs.declared.Copies.{Copies}
 use Rattle.model.specs.declared.Shared.{Shared}
 use Rattle.model.specs.Statements.{one}
-use Rattle.layout.specs.Bytes.{cut}
-use Rattle.layout.specs.Layout.{sharedWidths, portWidths, sharedValues, portValues, copiedValues, copiesValues, sharedOf, portOf, copiesOf, headValues, portPlace, copiesPlace, size}
+use Rattle.layout.specs.Bytes.{sum, pack, unpack}
+use Rattle.layout.specs.Layout.{headWidths, sharedWidths, portWidths, copiedWidths, copiesWidths, sharedValues, portValues, copiedValues, copiesValues, sharedOf, portOf, copiesOf, headValues, portPlace, copiesPlace, size}
 
 pub shared-values-one : (x : Shared) (r s : List ℕ) → r ≡ sharedValues x → s ≡ sharedValues x → r ≡ s
 shared-values-one x r s = one
@@ -22,11 +22,11 @@ copied-values-one x r s = one
 pub copies-values-one : (c : Copies) (r s : List ℕ) → r ≡ copiesValues c → s ≡ copiesValues c → r ≡ s
 copies-values-one c r s = one
 
-pub shared-of-one : (d : ℕ) (v c : List ℕ) (r s : Shared) → r ≡ sharedOf d (getD v 0 0 ∷ cut 1 (drop 1 sharedWidths) v) c
-    → s ≡ sharedOf d (getD v 0 0 ∷ cut 1 (drop 1 sharedWidths) v) c → r ≡ s
+pub shared-of-one : (d : ℕ) (v c : List ℕ) (r s : Shared) → r ≡ sharedOf d (unpack sharedWidths (pack sharedWidths v)) c
+    → s ≡ sharedOf d (unpack sharedWidths (pack sharedWidths v)) c → r ≡ s
 shared-of-one d v c r s = one
 
-pub port-of-one : (v : List ℕ) (r s : Port) → r ≡ portOf (cut 0 portWidths v) → s ≡ portOf (cut 0 portWidths v) → r ≡ s
+pub port-of-one : (v : List ℕ) (r s : Port) → r ≡ portOf (unpack portWidths (pack portWidths v)) → s ≡ portOf (unpack portWidths (pack portWidths v)) → r ≡ s
 port-of-one v r s = one
 
 pub copies-of-one : (v : List ℕ) (r s : Copies) → r ≡ copiesOf v → s ≡ copiesOf v → r ≡ s
@@ -43,3 +43,10 @@ copies-place-one d k r s = one
 
 pub size-one : (d r s : ℕ) → r ≡ size d → s ≡ size d → r ≡ s
 size-one d r s = one
+
+-- The bodies follow one another without gaps: each starts where the one before it ends, and the last ends the image
+pub without-gaps : (d : ℕ) → (portPlace 0 ≡ sum headWidths + sum sharedWidths)
+    × (portPlace d ≡ portPlace 0 + d * sum portWidths)
+    × (size d ≡ portPlace d + (sum copiedWidths + d * sum copiesWidths))
+unfolding sum headWidths sharedWidths portWidths copiedWidths copiesWidths portPlace copiesPlace size
+without-gaps d = (omega arith, omega arith, omega arith)

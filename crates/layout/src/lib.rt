@@ -6,9 +6,7 @@ use model::Shared;
 use model::Word;
 use model::Work;
 ghost use mathlib.Core.Path.{_≡_};
-ghost use mathlib.Core.List.{_∷_};
-ghost use lib.ListN.{getD, drop};
-ghost use Rattle.layout.specs.Bytes.{cut};
+ghost use Rattle.layout.specs.Bytes.{pack, unpack};
 ghost use Rattle.layout.specs.Layout as Layout;
 
 pub const HEAD: [usize; 8] = [1, 1, 2, 2, 2, 2, 2, 2];
@@ -88,9 +86,9 @@ pub fn copies_values(c: Copies) -> [u64; 3]
     [c.status, c.go, c.spin]
 }
 
-// A record from its values, each cut to its width.
+// A record from its values, of each what is left in its width.
 pub fn shared_of(d: u64, v: [u64; 4], c: [u64; 2]) -> Shared
-    ensures { λ r. ⌜ r ≡ Layout.sharedOf d (getD v 0 0 ∷ cut 1 (drop 1 Layout.sharedWidths) v) c ⌝ }
+    ensures { λ r. ⌜ r ≡ Layout.sharedOf d (unpack Layout.sharedWidths (pack Layout.sharedWidths v)) c ⌝ }
 {
     let word = Word {
         spin: (v[3] % 65536) as u16,
@@ -107,7 +105,7 @@ pub fn shared_of(d: u64, v: [u64; 4], c: [u64; 2]) -> Shared
 }
 
 fn work_of(v: [u64; 11]) -> Work
-    ensures { λ r. ⌜ r ≡ Layout.portOf (cut 0 Layout.portWidths v) .work ⌝ }
+    ensures { λ r. ⌜ r ≡ Layout.portOf (unpack Layout.portWidths (pack Layout.portWidths v)) .work ⌝ }
 {
     Work {
         own: (v[6] % 65536) as u16,
@@ -119,7 +117,7 @@ fn work_of(v: [u64; 11]) -> Work
 }
 
 pub fn port_of(v: [u64; 11]) -> Port
-    ensures { λ r. ⌜ r ≡ Layout.portOf (cut 0 Layout.portWidths v) ⌝ }
+    ensures { λ r. ⌜ r ≡ Layout.portOf (unpack Layout.portWidths (pack Layout.portWidths v)) ⌝ }
 {
     let work = work_of(v);
     Port {

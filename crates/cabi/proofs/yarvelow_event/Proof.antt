@@ -9,7 +9,8 @@ use Rattle.model.specs.declared.Answer.the-variants.{Done}
 use Rattle.model.specs.Event.{numberOf, event}
 use Rattle.model.specs.Run.{codeOf, run, runAnswers}
 use Rattle.lock.specs.Single.{single, run-one}
-use Rattle.image.specs.Image.{opened, Puts}
+use Rattle.image.specs.Image.{opened}
+use Rattle.image.specs.Laws.Promises.{Puts}
 use Rattle.cabi.specs.Laws.{is-done, no-image, check-refused, event-unread, event-refused, event-done}
 use Rattle.cabi.proofs.yarvelow_event.Statement.{statement}
 use Rattle.cabi.proofs.yarvelow_event.Tie as tie

@@ -6,7 +6,7 @@ use Rattle.model.specs.declared.Made.{Made}
 use Rattle.model.specs.Table.{room}
 use Rattle.model.specs.Event.{numberOf, fresh}
 use Rattle.lock.specs.Single.{number-small}
-use Rattle.image.specs.Image.{Puts}
+use Rattle.image.specs.Laws.Promises.{Puts}
 use Rattle.cabi.specs.Laws.{fresh-refused, fresh-put, fresh-length}
 use Rattle.cabi.proofs.yarvelow_fresh.Statement.{statement}
 use Rattle.cabi.proofs.yarvelow_fresh.Tie as tie

@@ -7,7 +7,8 @@ use Rattle.model.specs.declared.Answer.the-variants.{Done}
 use Rattle.model.specs.Event.{numberOf}
 use Rattle.model.specs.Run.{Order, ordersFor, run, runAnswers}
 use Rattle.layout.specs.Bytes.{Bytes}
-use Rattle.image.specs.Image.{opened, Puts}
+use Rattle.image.specs.Image.{opened}
+use Rattle.image.specs.Laws.Promises.{Puts}
 use Rattle.cabi.specs.Laws.{is-done, no-image, check-refused, run-unread, run-refused, run-done}
 use Rattle.cabi.proofs.yarvelow_run.Statement.{statement}
 use Rattle.cabi.proofs.yarvelow_run.Tie as tie

@@ -1,7 +1,7 @@
 -- An image, decoded and encoded, is the same bytes.
 use mathlib.Core.Path.{_≡_, refl, sym, ap, _∙_}
-use mathlib.Core.Bool.{true, false, and-eq-true-iff, true≢false}
-use mathlib.Core.List.{List, [], _∷_, _++_, map}
+use mathlib.Core.Bool.{true, and-eq-true-iff}
+use mathlib.Core.List.{List, [], _∷_, _++_, map, zipWith}
 use Prim.Native.Nat.{ℕ, zero, suc, _+_, _-_, _*_}
 use native.Mathlib.Nat.{zero-mul}
 use native.Mathlib.Omega.{arith}
@@ -10,22 +10,23 @@ use lib.Dec.{eqb}
 use lib.ListN.{length, take, drop, replicate, length-map, length-drop, take-append-drop}
 use lib.Seq.{take-at, take-all, drop-drop}
 use Rattle.model.specs.Table.{room, noPort, noCopies}
-use Rattle.layout.specs.Bytes.{Bytes, sum, pack, unpack, packs, unpacks}
-use Rattle.layout.specs.Layout.{sharedWidths, portWidths, copiedWidths, copiesWidths, headWidths, sharedValues, portValues, copiedValues, copiesValues, headValues, sharedOf, portOf, copiesOf, bodies, sharedPlace, portPlace, copiesPlace, size}
+use Rattle.layout.specs.Bytes.{Bytes, sum, pack, unpack, unpacks}
+use Rattle.layout.specs.Layout.{sharedWidths, portWidths, copiedWidths, copiesWidths, headWidths, sharedValues, portValues, copiedValues, copiesValues, headValues, sharedOf, portOf, copiesOf, portPlace, copiesPlace, size}
 use Rattle.layout.specs.Laws.Digits.{bytes-drop}
-use Rattle.layout.specs.Laws.Records.{pack-unpack, packs-unpacks, length-unpacks}
-use Rattle.image.specs.Image.{encode, same, dIn, isImage, held}
+use Rattle.layout.specs.Laws.Records.{packs, pack-unpack, packs-unpacks, length-unpack, length-unpacks}
+use Rattle.image.specs.Image.{encode, dIn, isImage, held}
+use Rattle.image.specs.Laws.Rows.{same}
 use Rattle.image.specs.Laws.Reading.{image-tests}
 
 -- two lists that are the same are equal
-same-equal : (a b : List ℕ) → same a b ≡ true → a ≡ b
-unfolding same
-same-equal [] [] e = refl
-same-equal [] (y ∷ b) e = absurd (true≢false (sym e))
-same-equal (x ∷ a) [] e = absurd (true≢false (sym e))
-same-equal (x ∷ a) (y ∷ b) e =
+same-equal : (a b : List ℕ) → length a ≡ length b → same a b ≡ true → a ≡ b
+unfolding zipWith
+same-equal [] [] l e = refl
+same-equal [] (y ∷ b) l e = absurd (omega (arith, l))
+same-equal (x ∷ a) [] l e = absurd (omega (arith, l))
+same-equal (x ∷ a) (y ∷ b) l e =
     let h = and-eq-true-iff (eqb x y) (same a b) .0 e in
-    rw (eqb-true x y (h .0), same-equal a b (h .1))
+    rw (eqb-true x y (h .0), same-equal a b (omega (arith, l)) (h .1))
 
 -- records of one kind, read and laid out again
 forth : {A : Type 0} (f : A → List ℕ) (of : List ℕ → A) (ws : List ℕ) → ((bs : List ℕ) → f (of (unpack ws bs)) ≡ unpack ws bs) → (n : ℕ) (bs : List ℕ)
@@ -47,29 +48,29 @@ module _ (bs : List ℕ) (f : Bytes bs) (e : isImage bs ≡ true) where
   long = image-tests bs e .long
 
   head-again : pack headWidths (headValues (dIn bs)) ≡ take (sum headWidths) bs
-  unfolding size bodies sum
+  unfolding headWidths headValues size portPlace copiesPlace sum
   head-again =
-      rw (← (same-equal (unpack headWidths bs) (headValues (dIn bs)) (image-tests bs e .head)))
+      rw (← (same-equal (unpack headWidths bs) (headValues (dIn bs)) (length-unpack headWidths bs) (image-tests bs e .head)))
       (pack-unpack headWidths bs f (omega (arith, long)))
 
-  shared-again : pack sharedWidths (sharedValues (held (dIn bs) bs .shared)) ≡ take (sum sharedWidths) (drop sharedPlace bs)
-  unfolding held sharedOf sharedValues unpack sharedWidths sharedPlace size bodies sum
+  shared-again : pack sharedWidths (sharedValues (held (dIn bs) bs .shared)) ≡ take (sum sharedWidths) (drop (sum headWidths) bs)
+  unfolding held sharedOf sharedValues unpack sharedWidths size portPlace copiesPlace sum
   shared-again =
-      pack-unpack sharedWidths (drop sharedPlace bs) (bytes-drop sharedPlace bs f) (rw (length-drop sharedPlace bs) (omega (arith, long)))
+      pack-unpack sharedWidths (drop (sum headWidths) bs) (bytes-drop (sum headWidths) bs f) (rw (length-drop (sum headWidths) bs) (omega (arith, long)))
 
   copied-again : pack copiedWidths (copiedValues (held (dIn bs) bs .shared)) ≡ take (sum copiedWidths) (drop (portPlace (dIn bs)) bs)
-  unfolding held sharedOf copiedValues unpack copiedWidths sharedPlace portPlace size bodies sum
+  unfolding held sharedOf copiedValues unpack copiedWidths portPlace size copiesPlace sum
   copied-again =
       pack-unpack copiedWidths (drop (portPlace (dIn bs)) bs) (bytes-drop (portPlace (dIn bs)) bs f) (rw (length-drop (portPlace (dIn bs)) bs) (omega (arith, long)))
 
   ports-again : packs portWidths (map portValues (take (dIn bs) (held (dIn bs) bs .ports))) ≡ take (dIn bs * sum portWidths) (drop (portPlace 0) bs)
-  unfolding held portOf portValues unpack portWidths sharedPlace portPlace size bodies sum
+  unfolding held portOf portValues unpack portWidths portPlace size copiesPlace sum
   ports-again =
       rw (first-records portOf noPort portWidths (dIn bs) (room - dIn bs) (drop (portPlace 0) bs), forth portValues portOf portWidths (λ b. refl) (dIn bs) (drop (portPlace 0) bs))
       (packs-unpacks portWidths (dIn bs) (drop (portPlace 0) bs) (bytes-drop (portPlace 0) bs f) (rw (length-drop (portPlace 0) bs) (omega (arith, long))))
 
   copies-again : packs copiesWidths (map copiesValues (take (dIn bs) (held (dIn bs) bs .copies))) ≡ take (dIn bs * sum copiesWidths) (drop (copiesPlace (dIn bs) 0) bs)
-  unfolding held copiesOf copiesValues unpack copiesWidths sharedPlace portPlace copiesPlace size bodies sum
+  unfolding held copiesOf copiesValues unpack copiesWidths portPlace copiesPlace size sum
   copies-again =
       rw (first-records copiesOf noCopies copiesWidths (dIn bs) (room - dIn bs) (drop (copiesPlace (dIn bs) 0) bs), forth copiesValues copiesOf copiesWidths (λ b. refl) (dIn bs) (drop (copiesPlace (dIn bs) 0) bs))
       (packs-unpacks copiesWidths (dIn bs) (drop (copiesPlace (dIn bs) 0) bs) (bytes-drop (copiesPlace (dIn bs) 0) bs f) (rw (length-drop (copiesPlace (dIn bs) 0) bs) (omega (arith, long))))
@@ -80,7 +81,7 @@ module _ (bs : List ℕ) (f : Bytes bs) (e : isImage bs ≡ true) where
 
   -- the pieces follow one another without gaps, and the last ends the image
   last : take (dIn bs * sum copiesWidths) (drop (copiesPlace (dIn bs) 0) bs) ≡ drop (copiesPlace (dIn bs) 0) bs
-  unfolding sharedPlace portPlace copiesPlace size bodies sum sharedWidths portWidths copiedWidths copiesWidths headWidths
+  unfolding portPlace copiesPlace size sum sharedWidths portWidths copiedWidths copiesWidths headWidths
   last = take-all (dIn bs * sum copiesWidths) (drop (copiesPlace (dIn bs) 0) bs) (rw (length-drop (copiesPlace (dIn bs) 0) bs) (omega (arith, long)))
 
   copies-next : portPlace (dIn bs) + sum copiedWidths ≡ copiesPlace (dIn bs) 0
@@ -91,12 +92,12 @@ module _ (bs : List ℕ) (f : Bytes bs) (e : isImage bs ≡ true) where
   unfolding portPlace
   copied-next = rw (zero-mul (sum portWidths)) (omega arith)
 
-  ports-next : sharedPlace + sum sharedWidths ≡ portPlace 0
+  ports-next : sum headWidths + sum sharedWidths ≡ portPlace 0
   unfolding portPlace
   ports-next = rw (zero-mul (sum portWidths)) (omega arith)
 
   pub encode-held : encode (held (dIn bs) bs) ≡ bs
-  unfolding encode sharedPlace
+  unfolding encode
   encode-held =
       let d = dIn bs in
       rw (
@@ -109,6 +110,6 @@ module _ (bs : List ℕ) (f : Bytes bs) (e : isImage bs ≡ true) where
         last,
         piece bs (portPlace d) (sum copiedWidths) (copiesPlace d 0) copies-next,
         piece bs (portPlace 0) (d * sum portWidths) (portPlace d) copied-next,
-        piece bs sharedPlace (sum sharedWidths) (portPlace 0) ports-next,
+        piece bs (sum headWidths) (sum sharedWidths) (portPlace 0) ports-next,
       )
       (take-append-drop (sum headWidths) bs)

@@ -18,12 +18,12 @@ use Rattle.model.specs.Laws.Tests.{conjunct, every-below}
 use Rattle.model.specs.Laws.Mask.{within-lt}
 use Rattle.model.specs.Laws.Rules.{shared-rules, port-rules}
 use Rattle.layout.specs.Bytes.{sum}
-use Rattle.layout.specs.Layout.{sharedWidths, portWidths, copiedWidths, copiesWidths, headWidths, sharedValues, portValues, copiedValues, copiesValues, version, bodies, contents, headValues}
+use Rattle.layout.specs.Layout.{sharedWidths, portWidths, copiedWidths, copiesWidths, headWidths, sharedValues, portValues, copiedValues, copiesValues, version, portPlace, headValues}
 use Rattle.layout.specs.Laws.Records.{Fits, AllFit}
 
 -- the head of an image
 pub head-fits : (d : ℕ) → d ≤ room → Fits headWidths (headValues d)
-unfolding room sum sharedWidths portWidths copiedWidths copiesWidths headWidths version bodies contents headValues
+unfolding room sum sharedWidths portWidths copiedWidths copiesWidths headWidths version portPlace headValues
 head-fits d h =
     (omega arith, (omega arith, (omega arith, (omega arith, (omega arith, (omega arith, (omega arith, (omega arith, tt))))))))
 

@@ -2,7 +2,7 @@
 use mathlib.Core.Path.{_≡_, refl, sym, ap, _∙_}
 use mathlib.Core.Bool.{Bool, true, false}
 use mathlib.Core.List.{List, _++_, map}
-use Prim.Native.Nat.{ℕ, suc, _+_, _-_, _*_, _≤_}
+use Prim.Native.Nat.{ℕ, _+_, _-_, _*_, _≤_}
 use native.Mathlib.Omega.{arith}
 use lib.ListN.{length, take, drop, replicate, length-append, length-map, length-replicate}
 use lib.Seq.{sets, sets-eq, take-at, drop-at}
@@ -11,18 +11,25 @@ use Rattle.model.specs.declared.Answer.the-variants.{Done}
 use Rattle.model.specs.Table.{room, Sized, noPort, noCopies}
 use Rattle.model.specs.Good.{good}
 use Rattle.model.specs.Event.{numberOf}
-use Rattle.layout.specs.Bytes.{Bytes, sum, pack, packs, unpacks}
-use Rattle.layout.specs.Layout.{sharedWidths, portWidths, copiedWidths, copiesWidths, headWidths, sharedValues, portValues, copiedValues, copiesValues, headValues, sharedOf, portOf, copiesOf, portPlace, copiesPlace, bodies, size}
+use Rattle.layout.specs.Bytes.{Bytes, sum, pack, unpacks}
+use Rattle.layout.specs.Layout.{sharedWidths, portWidths, copiedWidths, copiesWidths, headWidths, sharedValues, portValues, copiedValues, copiesValues, headValues, sharedOf, portOf, copiesOf, portPlace, copiesPlace, size}
 use Rattle.layout.specs.Laws.Digits.{bytes-append}
-use Rattle.layout.specs.Laws.Records.{pack-bytes, packs-bytes, length-unpacks}
+use Rattle.layout.specs.Laws.Records.{packs, pack-bytes, packs-bytes, length-unpacks}
 use Rattle.image.specs.declared.Written.{Written}
-use Rattle.image.specs.Image.{encode, dIn, isImage, held, opened, decode, writeAnswer, written, roomAfter, Puts, Writes}
+use Rattle.image.specs.Image.{encode, dIn, isImage, held, opened, decode, putAnswer, writeAnswer, written, roomAfter}
 use Rattle.image.specs.Laws.Reading.{image-tests}
 use Rattle.image.specs.Laws.Writing.{length-encode, answer-done}
 use Rattle.image.specs.Laws.Again.{encode-held}
 
+-- what `put` and `write` promise of their result and of the room after them
+abbrev pub Puts : Table → List ℕ → Written → List ℕ → Type 0
+Puts t out w next = (w ≡ written (putAnswer t (length out)) t) × (next ≡ roomAfter (putAnswer t (length out)) t out)
+
+abbrev pub Writes : Table → List ℕ → Written → List ℕ → Type 0
+Writes t out w next = (w ≡ written (writeAnswer t (length out)) t) × (next ≡ roomAfter (writeAnswer t (length out)) t out)
+
 pub size-is : (d : ℕ) → size d ≡ 30 + 22 * d
-unfolding sum headWidths sharedWidths portWidths copiedWidths copiesWidths bodies size
+unfolding sum headWidths sharedWidths portWidths copiedWidths copiesWidths portPlace copiesPlace size
 size-is d = omega arith
 
 pub encode-bytes : (t : Table) → Bytes (encode t)
@@ -83,16 +90,15 @@ opened-done bs h = go (isImage bs) refl
         eleven z = omega (arith, z)
 
 pub decode-done : (bs : List ℕ) → decode bs .answer ≡ Done → (opened bs ≡ decode bs) × (good (decode bs .table) ≡ true)
-unfolding opened decode
-decode-done bs h = go (isImage bs) refl (good (held (dIn bs) bs)) refl
+unfolding decode
+decode-done bs h = go (good (opened bs .table)) refl
   where
-    not-done : (n : ℕ) → suc n ≡ 0 → ⊥
-    not-done n z = omega (arith, z)
+    one : _≡_ {A = ℕ} 1 0 → ⊥
+    one z = omega (arith, z)
 
-    go : (b : Bool) → isImage bs ≡ b → (c : Bool) → good (held (dIn bs) bs) ≡ c → (opened bs ≡ decode bs) × (good (decode bs .table) ≡ true)
-    go true q true r = (rw (q, r), rw (q, r) r)
-    go true q false r = absurd (not-done 0 (ap numberOf (rw (q, r) at h)))
-    go false q c r = absurd (not-done 10 (ap numberOf (rw q at h)))
+    go : (b : Bool) → good (opened bs .table) ≡ b → (opened bs ≡ decode bs) × (good (decode bs .table) ≡ true)
+    go true g = (rw g, rw g g)
+    go false g = absurd (one (ap numberOf (rw g at h)))
 
 pub opened-encoded : (bs : List ℕ) → Bytes bs → opened bs .answer ≡ Done → encode (opened bs .table) ≡ bs
 opened-encoded bs f h =

@@ -18,11 +18,11 @@ use Rattle.model.specs.declared.Made.{Made}
 use Rattle.model.specs.declared.Answer.{Answer}
 use Rattle.model.specs.Table.{room, noPort, noCopies, freshTable}
 use Rattle.model.specs.Good.{sizeGood}
-use Rattle.layout.specs.Bytes.{Bytes, sum, unpack, unpacks, cut}
-use Rattle.layout.specs.Layout.{sharedWidths, portWidths, copiedWidths, copiesWidths, headWidths, headValues, sharedOf, portOf, copiesOf, sharedPlace, portPlace, copiesPlace, bodies, size}
-use Rattle.layout.specs.Laws.Digits.{bytes-drop}
-use Rattle.layout.specs.Laws.Records.{length-unpack, unpack-fits, cut-fits, length-unpacks, unpacks-more}
-use Rattle.image.specs.Image.{same, dIn, isImage, held, refused}
+use Rattle.layout.specs.Bytes.{Bytes, sum, pack, unpack, unpacks}
+use Rattle.layout.specs.Layout.{sharedWidths, portWidths, copiedWidths, copiesWidths, headWidths, headValues, sharedOf, portOf, copiesOf, portPlace, copiesPlace, size}
+use Rattle.layout.specs.Laws.Records.{length-unpack, unpack-fits, unpack-packed, length-unpacks, unpacks-more}
+use Rattle.image.specs.Image.{dIn, isImage, held, refused}
+use Rattle.image.specs.Laws.Rows.{same}
 
 -- D of an image, and 0 of bytes that are none
 unfoldable pub portsIn : List ℕ → ℕ
@@ -33,7 +33,7 @@ unfoldable pub sharedIn : ℕ → List ℕ → Shared
 sharedIn d bs =
     cond (eqb d 0)
     (freshTable 1 .shared)
-    (sharedOf d (unpack sharedWidths (drop sharedPlace bs)) (unpack copiedWidths (drop (portPlace d) bs)))
+    (sharedOf d (unpack sharedWidths (drop (sum headWidths) bs)) (unpack copiedWidths (drop (portPlace d) bs)))
 
 -- the tests of an image, one by one
 pub record Image (bs : List ℕ) : Type 0 where
@@ -74,19 +74,12 @@ sets-whole l xs e =
     let h : length l ≤ 0 + length xs = omega (arith, e) in
     sets-eq xs l 0 (omega (arith, e)) ∙ ap (λ (k : List ℕ). xs ++ k) (drop-of-length-le l h) ∙ append-nil xs
 
--- a record got: its values are those that the bytes stand for, and cutting them to their widths changes nothing
+-- a record got: its values are those that the bytes stand for, and their widths keep them
 pub got : (ws bs l v : List ℕ) → length l ≡ length ws → v ≡ sets l 0 (unpack ws bs) → v ≡ unpack ws bs
 got ws bs l v h e = e ∙ sets-whole l (unpack ws bs) (h ∙ sym (length-unpack ws bs))
 
-pub got-cut : (ws bs l v : List ℕ) → Bytes bs → length l ≡ length ws → v ≡ sets l 0 (unpack ws bs) → cut 0 ws v ≡ unpack ws bs
-got-cut ws bs l v f h e = let g = got ws bs l v h e in rw g (cut-fits 0 ws (unpack ws bs) (unpack-fits ws bs f))
-
-pub got-cut-tail : (w : ℕ) (ws bs l v : List ℕ) → Bytes bs → length l ≡ length (w ∷ ws) → v ≡ sets l 0 (unpack (w ∷ ws) bs)
-    → getD v 0 0 ∷ cut 1 ws v ≡ unpack (w ∷ ws) bs
-unfolding unpack
-got-cut-tail w ws bs l v f h e =
-    let g = got (w ∷ ws) bs l v h e in
-    rw (g, cut-fits 1 ws (unpack (w ∷ ws) bs) (unpack-fits ws (drop w bs) (bytes-drop w bs f)))
+pub got-fits : (ws bs l v : List ℕ) → Bytes bs → length l ≡ length ws → v ≡ sets l 0 (unpack ws bs) → unpack ws (pack ws v) ≡ unpack ws bs
+got-fits ws bs l v f h e = let g = got ws bs l v h e in rw g (unpack-packed ws (unpack ws bs) (unpack-fits ws bs f))
 
 pub shared-got : (d : ℕ) (vs xs cs ys : List ℕ) → vs ≡ xs → cs ≡ ys → sharedOf d vs cs ≡ sharedOf d xs ys
 shared-got d vs xs cs ys e g = rw (e, g)
@@ -98,7 +91,7 @@ ports-none bs e = rw e
 
 module _ (bs : List ℕ) where
   pub too-short : length bs < 14 → 0 ≡ portsIn bs
-  unfolding isImage size sum headWidths
+  unfolding isImage sum headWidths sharedWidths portWidths copiedWidths copiesWidths portPlace copiesPlace size
   too-short h =
       ports-none bs
       (rw (ne-eqb (length bs) (size (dIn bs)) (λ e. absurd (omega (arith, e))), and-false (sizeGood (dIn bs))))
@@ -142,7 +135,7 @@ module _ {A : Type 0} (f : List ℕ → A) (z : A) (ws bs : List ℕ) where
 -- the records of port i have their places
 pub ports-there : (bs : List ℕ) (n i : ℕ) → n ≡ portsIn bs → i < n
     → (portPlace i + sum portWidths ≤ length bs) × (copiesPlace n i + sum copiesWidths ≤ length bs)
-unfolding sum headWidths sharedWidths portWidths copiedWidths copiesWidths bodies size sharedPlace portPlace copiesPlace
+unfolding sum headWidths sharedWidths portWidths copiedWidths copiesWidths portPlace copiesPlace size
 ports-there bs n i e h =
     let l = ports-fit bs .1 (omega (arith, e)) in
     (omega (arith, l, e), omega (arith, l, e))
@@ -162,9 +155,9 @@ read-start bs n s e = record { upto = omega arith; ports = rw (sub-zero room); c
 pub port-there : (k : ℕ) (bs : List ℕ) → drop (portPlace k) bs ≡ drop (k * sum portWidths) (drop (portPlace 0) bs)
 unfolding portPlace
 port-there k bs =
-    let e : sharedPlace + sum sharedWidths + 0 * sum portWidths + k * sum portWidths ≡ sharedPlace + sum sharedWidths + k * sum portWidths =
-    rw (zero-mul (sum portWidths), add-zero (sharedPlace + sum sharedWidths)) in
-    sym (drop-drop (k * sum portWidths) (sharedPlace + sum sharedWidths + 0 * sum portWidths) bs ∙ ap (λ (m : ℕ). drop m bs) e)
+    let e : sum headWidths + sum sharedWidths + 0 * sum portWidths + k * sum portWidths ≡ sum headWidths + sum sharedWidths + k * sum portWidths =
+    rw (zero-mul (sum portWidths), add-zero (sum headWidths + sum sharedWidths)) in
+    sym (drop-drop (k * sum portWidths) (sum headWidths + sum sharedWidths + 0 * sum portWidths) bs ∙ ap (λ (m : ℕ). drop m bs) e)
 
 pub copies-there : (n k : ℕ) (bs : List ℕ) → drop (copiesPlace n k) bs ≡ drop (k * sum copiesWidths) (drop (copiesPlace n 0) bs)
 unfolding copiesPlace

@@ -1,7 +1,7 @@
 -- A good table, encoded and decoded, is the same table.
 use mathlib.Core.Path.{_≡_, refl, sym, ap, _∙_}
 use mathlib.Core.Bool.{true}
-use mathlib.Core.List.{List, [], _∷_, _++_, map, append-nil}
+use mathlib.Core.List.{List, [], _∷_, _++_, map, zipWith, append-nil}
 use Prim.Native.Nat.{ℕ, _+_, _-_, _*_, _≤_, _<_}
 use native.Mathlib.Nat.{zero-mul, add-zero}
 use native.Mathlib.Omega.{arith}
@@ -13,17 +13,18 @@ use Rattle.model.specs.declared.Answer.the-variants.{Done}
 use Rattle.model.specs.Table.{room, Sized, noPort, noCopies}
 use Rattle.model.specs.Good.{sizeGood, good}
 use Rattle.model.specs.Laws.Rules.{shared-rules}
-use Rattle.layout.specs.Bytes.{sum, pack, unpack, packs, unpacks}
-use Rattle.layout.specs.Layout.{sharedWidths, portWidths, copiedWidths, copiesWidths, headWidths, sharedValues, portValues, copiedValues, copiesValues, headValues, sharedOf, portOf, copiesOf, sharedPlace, portPlace, copiesPlace, size}
-use Rattle.layout.specs.Laws.Records.{AllFit, length-pack, unpack-pack, unpacks-packs}
-use Rattle.image.specs.Image.{encode, same, dIn, isImage, held, decode}
+use Rattle.layout.specs.Bytes.{sum, pack, unpack, unpacks}
+use Rattle.layout.specs.Layout.{sharedWidths, portWidths, copiedWidths, copiesWidths, headWidths, sharedValues, portValues, copiedValues, copiesValues, headValues, sharedOf, portOf, copiesOf, portPlace, copiesPlace, size}
+use Rattle.layout.specs.Laws.Records.{packs, AllFit, length-pack, unpack-pack, unpacks-packs}
+use Rattle.image.specs.Image.{encode, dIn, isImage, held, opened, decode}
+use Rattle.image.specs.Laws.Rows.{same}
 use Rattle.image.specs.Laws.Reading.{tables}
 use Rattle.image.specs.Laws.Writing.{length-encode, rows-long}
 use Rattle.image.specs.Laws.Fits.{head-fits, shared-fits, copied-fits, port-fits, copies-fits, all-fit, empty-above}
 
 -- a list is the same as itself
 same-refl : (l : List ℕ) → same l l ≡ true
-unfolding same
+unfolding zipWith
 same-refl [] = refl
 same-refl (x ∷ l) = rw (eq-eqb x x refl, same-refl l)
 
@@ -66,8 +67,8 @@ abbrev afterShared : Table → List ℕ
 afterShared t = packs portWidths (map portValues (take (t .shared .d) (t .ports))) ++ afterPorts t
 
 module _ (t : Table) where
-  at-shared : drop sharedPlace (encode t) ≡ pack sharedWidths (sharedValues (t .shared)) ++ afterShared t
-  unfolding encode sharedPlace
+  at-shared : drop (sum headWidths) (encode t) ≡ pack sharedWidths (sharedValues (t .shared)) ++ afterShared t
+  unfolding encode
   at-shared =
       drop-at (pack headWidths (headValues (t .shared .d))) (pack sharedWidths (sharedValues (t .shared)) ++ afterShared t) (sum headWidths)
       (length-pack headWidths (headValues (t .shared .d)))
@@ -75,9 +76,9 @@ module _ (t : Table) where
   at-port : (k : ℕ) → drop (portPlace k) (encode t) ≡ drop (k * sum portWidths) (afterShared t)
   unfolding portPlace
   at-port k =
-      let e : sharedPlace + sum sharedWidths + k * sum portWidths ≡ sharedPlace + (sum sharedWidths + k * sum portWidths) = omega arith in
+      let e : sum headWidths + sum sharedWidths + k * sum portWidths ≡ sum headWidths + (sum sharedWidths + k * sum portWidths) = omega arith in
       rw e
-      (sym (drop-drop (sum sharedWidths + k * sum portWidths) sharedPlace (encode t))
+      (sym (drop-drop (sum sharedWidths + k * sum portWidths) (sum headWidths) (encode t))
       ∙ ap (drop (sum sharedWidths + k * sum portWidths)) at-shared
       ∙ past (pack sharedWidths (sharedValues (t .shared))) (afterShared t) (sum sharedWidths) (k * sum portWidths)
       (length-pack sharedWidths (sharedValues (t .shared))))
@@ -127,7 +128,7 @@ module _ (t : Table) where
           same-refl (headValues (t .shared .d)),
         )
 
-    shared-back : sharedOf (t .shared .d) (unpack sharedWidths (drop sharedPlace (encode t))) (unpack copiedWidths (drop (portPlace (t .shared .d)) (encode t))) ≡ t .shared
+    shared-back : sharedOf (t .shared .d) (unpack sharedWidths (drop (sum headWidths) (encode t))) (unpack copiedWidths (drop (portPlace (t .shared .d)) (encode t))) ≡ t .shared
     unfolding sharedOf sharedValues copiedValues
     shared-back =
         rw (
@@ -169,5 +170,5 @@ module _ (t : Table) where
     held-back = tables _ (t .ports) _ (t .copies) _ (t .shared) ports-back copies-back shared-back
 
     pub decode-encode : decode (encode t) ≡ record { table = t; answer = Done }
-    unfolding decode
+    unfolding opened decode
     decode-encode = rw (image-back, d-back, held-back, g)

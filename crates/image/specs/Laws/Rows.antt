@@ -1,7 +1,7 @@
 -- Records as the code puts and gets them, field by field and byte by byte: one turn of each loop.
 use mathlib.Core.Path.{_≡_, sym, ap, _∙_}
 use mathlib.Core.Bool.{Bool, true, _&&_, and-true, and-assoc, and-eq-true-iff}
-use mathlib.Core.List.{List, [], _∷_, _++_}
+use mathlib.Core.List.{List, [], _∷_, _++_, foldr, zipWith}
 use Prim.Native.Nat.{ℕ, zero, suc, _+_, _-_, _*_, _/_, _%_, _≤_, _<_}
 use native.Mathlib.Nat.{lt-of-lt-of-le, pow-le-pow-right, add-zero}
 use native.Mathlib.Numerals.{add-one}
@@ -12,7 +12,6 @@ use lib.ListN.{length, getD, set, take, drop, length-drop, length-set}
 use lib.Seq.{sets, length-sets, drop-cons, getD-take, getD-drop, drop-drop, drop-length, length-take-le}
 use Rattle.layout.specs.Bytes.{Bytes, little, value, sum, pack, unpack}
 use Rattle.layout.specs.Laws.Digits.{bytes-drop, bytes-take, length-little, value-below, value-from}
-use Rattle.image.specs.Image.{same}
 
 -- no field is wider than the code's numbers
 abbrev pub narrow : List ℕ → Bool
@@ -133,17 +132,20 @@ get-end ws bs at vs₀ vs i j h r =
     let n : drop j ws ≡ [] = rw e (drop-length ws) in
     rw n at (r .text)
 
+-- two lists of numbers of one length are the same
+abbrev pub same : List ℕ → List ℕ → Bool
+same xs ys = foldr _&&_ true (zipWith eqb xs ys)
+
 -- one number compared
 pub same-turn : (a b : List ℕ) (ok : Bool) (i : ℕ) → length a ≡ length b → i < length a → (ok && same (drop i a) (drop i b)) ≡ same a b
     → (ok && eqb (getD a i 0) (getD b i 0) && same (drop (i + 1) a) (drop (i + 1) b)) ≡ same a b
-unfolding same
+unfolding zipWith
 same-turn a b ok i l h e =
     let k : i < length b = omega arith in
     rw (and-assoc ok _ _, add-one i) (rw (drop-cons a i 0 h, drop-cons b i 0 k) at e)
 
-pub same-end : (a b : List ℕ) (ok : Bool) (i : ℕ) → length a ≡ length b → i ≡ length a → (ok && same (drop i a) (drop i b)) ≡ same a b → ok ≡ same a b
-unfolding same
-same-end a b ok i l h e =
+pub same-end : (a b : List ℕ) (ok : Bool) (i : ℕ) → i ≡ length a → (ok && same (drop i a) (drop i b)) ≡ same a b → ok ≡ same a b
+unfolding zipWith
+same-end a b ok i h e =
     let p : drop i a ≡ [] = rw h (drop-length a) in
-    let q : drop i b ≡ [] = rw (h ∙ l) (drop-length b) in
-    sym (and-true ok) ∙ (rw (p, q) at e)
+    sym (and-true ok) ∙ (rw p at e)

@@ -14,7 +14,9 @@ use Rattle.model.specs.declared.Copies.{Copies}
 use Rattle.model.specs.declared.Shared.{Shared}
 use Rattle.model.specs.declared.Answer.{Answer}
 use Rattle.model.specs.declared.Answer.the-variants.{Done, BadTable, BadImage}
-use Rattle.model.specs.Table.{room, noPort, noCopies, portAt, copiesAt}
+use Rattle.model.specs.Table.{room, noPort, noCopies, portAt, copiesAt, freshTable}
+use Rattle.model.specs.Event.{fresh}
+use Rattle.model.specs.Laws.Kept.{made-good}
 use Rattle.model.specs.Good.{everyBelow, sizeGood, sharedGood, portEmpty, placeGood, good}
 use Rattle.rules.specs.Check.{placeGoodOn, place-turn}
 use Rattle.layout.specs.Bytes.{sum, unpack, unpacks}
@@ -148,9 +150,27 @@ open-ends bs = go (isImage bs) refl
         rw (ne-eqb (dIn bs) 0 (λ q. absurd (omega (arith, q, h)))) (is-image Done (dIn bs) bs h)
     go false e = no-image BadImage bs
 
+fresh-good : good (freshTable 1) ≡ true
+unfolding fresh sizeGood room
+fresh-good = made-good 1
+
+-- the reader's tests one after the other: the table of a refusal is good
+pub decode-by-tests : (bs : List ℕ) → decode bs
+    ≡ cond (isImage bs) (cond (good (held (dIn bs) bs)) (record { table = held (dIn bs) bs; answer = Done }) (refused BadTable)) (refused BadImage)
+unfolding opened decode
+decode-by-tests bs = go (isImage bs)
+  where
+    go : (b : Bool)
+        → cond (good (cond b (record { table = held (dIn bs) bs; answer = Done }) (refused BadImage) .table))
+        (cond b (record { table = held (dIn bs) bs; answer = Done }) (refused BadImage))
+        (refused BadTable)
+        ≡ cond b (cond (good (held (dIn bs) bs)) (record { table = held (dIn bs) bs; answer = Done }) (refused BadTable)) (refused BadImage)
+    go true = refl
+    go false = rw fresh-good
+
 pub read-ends : (bs : List ℕ) → madeIn (answerIn (portsIn bs) (soundIn (portsIn bs) bs)) (soundIn (portsIn bs) bs) bs ≡ decode bs
-unfolding portsIn decode answerIn soundIn
-read-ends bs = go (isImage bs) refl (good (held (dIn bs) bs)) refl
+unfolding portsIn answerIn soundIn
+read-ends bs = go (isImage bs) refl (good (held (dIn bs) bs)) refl ∙ sym (decode-by-tests bs)
   where
     go : (b : Bool) → isImage bs ≡ b → (c : Bool) → good (held (dIn bs) bs) ≡ c
         → madeIn (answerIn (cond b (dIn bs) 0) (soundIn (cond b (dIn bs) 0) bs)) (soundIn (cond b (dIn bs) 0) bs) bs

@@ -1,6 +1,6 @@
 -- Writing as the code does it: record by record, what is still to write gives the whole image.
 use mathlib.Core.Path.{_≡_, refl, sym, ap, _∙_}
-use mathlib.Core.List.{List, [], _++_, map, append-assoc}
+use mathlib.Core.List.{List, [], _++_, map, flatMap, append-assoc}
 use Prim.Native.Nat.{ℕ, suc, _+_, _*_, _≤_, _<_}
 use native.Mathlib.Numerals.{add-one}
 use native.Mathlib.Omega.{arith}
@@ -10,9 +10,9 @@ use lib.Seq.{sets, length-sets, drop-cons, getD-take, length-take-le}
 use Rattle.model.specs.declared.Table.{Table}
 use Rattle.model.specs.declared.Answer.the-variants.{Done, BadTable, ShortRoom}
 use Rattle.model.specs.Table.{room, Sized, noPort, noCopies}
-use Rattle.layout.specs.Bytes.{sum, pack, packs}
-use Rattle.layout.specs.Layout.{sharedWidths, portWidths, copiedWidths, copiesWidths, headWidths, sharedValues, portValues, copiedValues, copiesValues, headValues, bodies, size}
-use Rattle.layout.specs.Laws.Records.{length-pack, length-packs}
+use Rattle.layout.specs.Bytes.{sum, pack}
+use Rattle.layout.specs.Layout.{sharedWidths, portWidths, copiedWidths, copiesWidths, headWidths, sharedValues, portValues, copiedValues, copiesValues, headValues, portPlace, copiesPlace, size}
+use Rattle.layout.specs.Laws.Records.{packs, length-pack, length-packs}
 use Rattle.image.specs.Image.{encode, putAnswer}
 use Rattle.image.specs.Laws.Rows.{sets-append}
 
@@ -65,13 +65,13 @@ module _ {A : Type 0} (f : A → List ℕ) (z : A) (ws : List ℕ) (l : List A) 
   long = length-take-le d l fits
 
   row-first : (i : ℕ) → i < d → (tail : List ℕ) → rows f ws l d i ++ tail ≡ pack ws (f (getD l i z)) ++ (rows f ws l d (i + 1) ++ tail)
-  unfolding packs
+  unfolding flatMap
   row-first i h tail =
       rw (drop-cons (take d l) i z (rw long h), getD-take d l i z h, add-one i)
       (append-assoc (pack ws (f (getD l i z))) (packs ws (map f (drop (suc i) (take d l)))) tail)
 
   row-last : rows f ws l d d ≡ []
-  unfolding packs
+  unfolding flatMap
   row-last = rw (drop-of-length-le (take d l) {i = d} (omega (arith, long)))
 
   pub rows-long : length (rows f ws l d 0) ≡ d * sum ws
@@ -92,7 +92,7 @@ module _ {A : Type 0} (f : A → List ℕ) (z : A) (ws : List ℕ) (l : List A) 
 
 -- the length of an image
 pub length-encode : (t : Table) → Sized t → t .shared .d ≤ room → length (encode t) ≡ size (t .shared .d)
-unfolding encode size bodies sum
+unfolding encode size portPlace copiesPlace sum
 length-encode t s h =
     let d = t .shared .d in
     let p = rows-long portValues noPort portWidths (t .ports) d (omega (arith, s .ports, h)) in

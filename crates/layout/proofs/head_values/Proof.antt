@@ -1,12 +1,12 @@
 use mathlib.Core.Path.{refl}
 use Rattle.layout.specs.Bytes.{sum}
-use Rattle.layout.specs.Layout.{headWidths, sharedWidths, portWidths, copiedWidths, copiesWidths, version, bodies, contents, headValues}
+use Rattle.layout.specs.Layout.{headWidths, sharedWidths, portWidths, copiedWidths, copiesWidths, version, portPlace, headValues}
 use borrow.Author.Needs.{needs}
 use Rattle.layout.proofs.head_values.Statement.{statement}
 use Rattle.layout.proofs.head_values.Tie as tie
 
 returns : tie.Need-returns
-unfolding sum headWidths sharedWidths portWidths copiedWidths copiesWidths version bodies contents headValues
+unfolding sum headWidths sharedWidths portWidths copiedWidths copiesWidths version portPlace headValues
 returns c = refl
 
 pub head-values-spec : {M : Type 1} → statement M

@@ -1,11 +1,12 @@
 use Rattle.layout.specs.Layout.{portWidths, portOf}
+use Rattle.layout.specs.Laws.Records.{packed-cut}
 use borrow.Author.Needs.{needs}
 use Rattle.layout.proofs.port_of.Statement.{statement}
 use Rattle.layout.proofs.port_of.Tie as tie
 
 returns : tie.Need-returns
 unfolding portOf portWidths
-returns c = rw (c .work-of .ensures)
+returns c = rw (c .work-of .ensures, packed-cut 0 portWidths _)
 
 pub port-of-spec : {M : Type 1} → statement M
 port-of-spec =

@@ -1,12 +1,12 @@
 use native.Mathlib.Omega.{arith}
 use Rattle.layout.specs.Bytes.{sum}
-use Rattle.layout.specs.Layout.{headWidths, sharedWidths, portWidths, sharedPlace, portPlace}
+use Rattle.layout.specs.Layout.{headWidths, sharedWidths, portWidths, portPlace}
 use borrow.Author.Needs.{needs}
 use Rattle.layout.proofs.port_place.Statement.{statement}
 use Rattle.layout.proofs.port_place.Tie as tie
 
 returns : tie.Need-returns
-unfolding sum headWidths sharedWidths portWidths sharedPlace portPlace
+unfolding sum headWidths sharedWidths portWidths portPlace
 returns c = omega arith
 
 pub port-place-spec : {M : Type 1} → statement M

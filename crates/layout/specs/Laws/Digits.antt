@@ -2,9 +2,10 @@
 use mathlib.Core.Path.{_≡_, refl, ap}
 use mathlib.Core.List.{List, [], _∷_, _++_}
 use Prim.Native.Nat.{ℕ, zero, suc, _+_, _*_, _/_, _%_, _^_, _<_}
-use native.Mathlib.Nat.{pow-suc, le-trans, pow-le-pow-right}
+use native.Mathlib.Nat.{pow-suc, one-le-pow, le-trans, pow-le-pow-right}
 use native.Mathlib.Numerals.{add-one}
 use native.Mathlib.Omega.{arith}
+use lib.Arith.{mod-mul}
 use lib.ListN.{length, getD, take, drop, length-take}
 use lib.Seq.{getD-drop, drop-cons}
 use Rattle.layout.specs.Bytes.{Bytes, little, value}
@@ -43,6 +44,13 @@ value-little zero v h = omega arith
 value-little (suc w) v h =
     let e = value-little w (v / 256) (omega (arith, pow-suc 256 w)) in
     omega (arith, e)
+
+-- what is left of a number in w bytes
+pub value-cut : (w v : ℕ) → value (little w v) ≡ v % 256 ^ w
+unfolding little value
+value-cut zero v = omega arith
+value-cut (suc w) v =
+    rw (pow-suc 256 w, mod-mul v {m = 256 ^ w} {c = 256} (one-le-pow w 256 (omega arith)) (omega arith), value-cut w (v / 256)) (omega arith)
 
 pub little-value : (bs : List ℕ) → Bytes bs → little (length bs) (value bs) ≡ bs
 unfolding little value

@@ -1,14 +1,14 @@
 -- Laws of records of any widths: what is packed is unpacked, and what is unpacked is packed again.
 use mathlib.Core.Path.{_≡_, refl, sym, ap, _∙_}
-use mathlib.Core.List.{List, [], _∷_, _++_, append-assoc}
-use Prim.Native.Nat.{ℕ, zero, suc, _+_, _*_, _^_, _≤_, _<_}
-use native.Mathlib.Nat.{zero-mul, suc-mul, add-comm, mod-eq-of-lt}
+use mathlib.Core.List.{List, [], _∷_, _++_, flatMap, append-assoc, append-nil}
+use Prim.Native.Nat.{ℕ, zero, suc, _+_, _*_, _%_, _^_, _≤_, _<_}
+use native.Mathlib.Nat.{zero-mul, suc-mul, add-comm}
 use native.Mathlib.Numerals.{add-one}
 use native.Mathlib.Omega.{arith}
 use lib.ListN.{length, getD, take, drop, length-append, length-drop}
 use lib.Seq.{take-at, drop-at, take-add, length-take-le, getD-drop, drop-drop}
-use Rattle.layout.specs.Bytes.{Bytes, little, value, sum, pack, unpack, packs, unpacks, cut}
-use Rattle.layout.specs.Laws.Digits.{bytes-nil, bytes-append, bytes-drop, bytes-take, length-little, little-bytes, value-little, little-value, value-fits}
+use Rattle.layout.specs.Bytes.{Bytes, little, value, sum, pack, unpack, unpacks}
+use Rattle.layout.specs.Laws.Digits.{bytes-nil, bytes-append, bytes-drop, bytes-take, length-little, little-bytes, value-little, value-cut, little-value, value-fits}
 
 -- there is a value for every width, and it fits
 abbrev pub Fits : List ℕ → List ℕ → Type 0
@@ -60,43 +60,55 @@ unfolding unpack
 unpack-fits [] bs f = tt
 unpack-fits (w ∷ ws) bs f = (value-fits w bs f, unpack-fits ws (drop w bs) (bytes-drop w bs f))
 
--- values that fit their widths are not changed by cutting
-pub cut-fits : (i : ℕ) (ws vs : List ℕ) → Fits ws (drop i vs) → cut i ws vs ≡ drop i vs
-cut-fits i [] vs f = go (drop i vs) f
-  where
-    go : (l : List ℕ) → Fits [] l → [] ≡ l
-    go [] f = refl
-    go (x ∷ l) f = absurd f
-cut-fits i (w ∷ ws) vs f = go (drop i vs) refl f (cut-fits (suc i) ws vs)
-  where
-    go : (l : List ℕ) → drop i vs ≡ l → Fits (w ∷ ws) l → (Fits ws (drop (suc i) vs) → cut (suc i) ws vs ≡ drop (suc i) vs)
-        → cut i (w ∷ ws) vs ≡ drop i vs
-    go [] e f g = absurd f
-    go (x ∷ l) e f g =
-        let z : i + 0 ≡ i = omega arith in
-        let h : getD vs i 0 ≡ x = rw z at (sym (getD-drop i vs 0 0) ∙ ap (λ (k : List ℕ). getD k 0 0) e) in
-        let r : drop (suc i) vs ≡ l = rw (add-one i) at (sym (drop-drop 1 i vs) ∙ ap (λ (k : List ℕ). drop 1 k) e) in
-        rw (e, h, mod-eq-of-lt (f .0), g (rw r (f .1)), r)
+-- values that fit their widths are kept by them
+pub unpack-packed : (ws vs : List ℕ) → Fits ws vs → unpack ws (pack ws vs) ≡ vs
+unpack-packed ws vs f = ap (unpack ws) (sym (append-nil (pack ws vs))) ∙ unpack-pack ws vs [] f
 
--- many records
+-- the values from i on, each cut to its width: what is left of them in their widths
+abbrev pub cut : ℕ → List ℕ → List ℕ → List ℕ
+cut i [] vs = []
+cut i (w ∷ ws) vs = (getD vs i 0 % 256 ^ w) ∷ cut (suc i) ws vs
+
+pub packed-cut : (i : ℕ) (ws vs : List ℕ) → unpack ws (pack ws (drop i vs)) ≡ cut i ws vs
+unfolding pack unpack
+packed-cut i [] vs = refl
+packed-cut i (w ∷ ws) vs =
+    let x = getD (drop i vs) 0 0 in
+    let rest = pack ws (drop 1 (drop i vs)) in
+    let z : i + 0 ≡ i = omega arith in
+    let g : getD (drop i vs) 0 0 ≡ getD vs i 0 = rw z at (getD-drop i vs 0 0) in
+    let r : drop 1 (drop i vs) ≡ drop (suc i) vs = rw (add-one i) at (drop-drop 1 i vs) in
+    rw (
+      take-at (little w x) rest w (length-little w x),
+      drop-at (little w x) rest w (length-little w x),
+      value-cut w x,
+      g,
+      r,
+      packed-cut (suc i) ws vs,
+    )
+
+-- many records, one straight after the other
+abbrev pub packs : List ℕ → List (List ℕ) → List ℕ
+packs ws vss = flatMap (pack ws) vss
+
 abbrev pub AllFit : List ℕ → List (List ℕ) → Type 0
 AllFit ws [] = Prim.Unit {0}
 AllFit ws (vs ∷ vss) = Fits ws vs × AllFit ws vss
 
 pub length-packs : (ws : List ℕ) (vss : List (List ℕ)) → length (packs ws vss) ≡ length vss * sum ws
-unfolding packs
+unfolding flatMap
 length-packs ws [] = sym (zero-mul (sum ws))
 length-packs ws (vs ∷ vss) =
     length-append (pack ws vs) (packs ws vss)
     ∙ rw (length-pack ws vs, length-packs ws vss, suc-mul (length vss) (sum ws)) (add-comm (sum ws) _)
 
 pub packs-bytes : (ws : List ℕ) (vss : List (List ℕ)) → Bytes (packs ws vss)
-unfolding packs
+unfolding flatMap
 packs-bytes ws [] = bytes-nil
 packs-bytes ws (vs ∷ vss) = bytes-append (pack ws vs) (packs ws vss) (pack-bytes ws vs) (packs-bytes ws vss)
 
 pub unpacks-packs : (ws : List ℕ) (vss : List (List ℕ)) (rest : List ℕ) → AllFit ws vss → unpacks ws (length vss) (packs ws vss ++ rest) ≡ vss
-unfolding packs unpacks
+unfolding flatMap unpacks
 unpacks-packs ws [] rest f = refl
 unpacks-packs ws (vs ∷ vss) rest f =
     rw (
@@ -107,7 +119,7 @@ unpacks-packs ws (vs ∷ vss) rest f =
     )
 
 pub packs-unpacks : (ws : List ℕ) (n : ℕ) (bs : List ℕ) → Bytes bs → n * sum ws ≤ length bs → packs ws (unpacks ws n bs) ≡ take (n * sum ws) bs
-unfolding packs unpacks
+unfolding flatMap unpacks
 packs-unpacks ws zero bs f h = rw (zero-mul (sum ws))
 packs-unpacks ws (suc n) bs f h =
     let e : suc n * sum ws ≡ sum ws + n * sum ws = suc-mul n (sum ws) ∙ add-comm (n * sum ws) (sum ws) in

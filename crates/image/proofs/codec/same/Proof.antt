@@ -5,8 +5,7 @@ use Prim.Native.Nat.{_-_, _≤_}
 use native.Mathlib.Omega.{arith}
 use borrow.Author.Needs.{needs}
 use lib.ListN.{length, drop}
-use Rattle.image.specs.Image.{same}
-use Rattle.image.specs.Laws.Rows.{same-turn, same-end}
+use Rattle.image.specs.Laws.Rows.{same, same-turn, same-end}
 use Rattle.image.proofs.codec.same.Statement.{statement}
 use Rattle.image.proofs.codec.same.Tie as tie
 
@@ -27,7 +26,7 @@ loop-again c =
 returns : tie.Need-returns Inv-loop μ-loop
 returns c =
     let k = c .before in
-    same-end _ _ (k .loop .ok) (k .loop .i) (k .before .pre) (omega (arith, k .loop .inv .0, c .loop-test .left)) (k .loop .inv .1)
+    same-end _ _ (k .loop .ok) (k .loop .i) (omega (arith, k .loop .inv .0, c .loop-test .left)) (k .loop .inv .1)
 
 pub same-spec : {M : Type 1} → statement M
 same-spec =

@@ -4,7 +4,7 @@ use lib.ListN.{drop, replicate}
 use Rattle.layout.specs.Bytes.{Bytes}
 use Rattle.layout.specs.Layout.{portWidths, portOf}
 use Rattle.layout.specs.Laws.Digits.{bytes-drop}
-use Rattle.image.specs.Laws.Reading.{got-cut}
+use Rattle.image.specs.Laws.Reading.{got-fits}
 use borrow.Author.Needs.{needs}
 use Rattle.image.proofs.parts.port_at.Statement.{statement}
 use Rattle.image.proofs.parts.port_at.Tie as tie
@@ -19,7 +19,7 @@ returns c =
     let s = c .before .before .before .before .before .before in
     let f : Bytes (s .args .bytes .now) = (λ i. c .before .before .before .before .before .shared-slice-known .given i .fits) in
     c .port-of .ensures
-    ∙ ap portOf (got-cut portWidths (drop (s .args .at) (s .args .bytes .now)) (replicate 11 0) _ (bytes-drop (s .args .at) (s .args .bytes .now) f) refl (c .before .before .get-row .ensures))
+    ∙ ap portOf (got-fits portWidths (drop (s .args .at) (s .args .bytes .now)) (replicate 11 0) _ (bytes-drop (s .args .at) (s .args .bytes .now) f) refl (c .before .before .get-row .ensures))
 
 pub port-at-spec : {M : Type 1} → statement M
 port-at-spec =

@@ -1,7 +1,7 @@
 use native.Mathlib.Omega.{arith}
 use Rattle.model.specs.Table.{room}
 use Rattle.layout.specs.Bytes.{sum, pack}
-use Rattle.layout.specs.Layout.{headWidths, sharedWidths, bodies, contents, headValues, sharedValues}
+use Rattle.layout.specs.Layout.{headWidths, sharedWidths, headValues, sharedValues}
 use Rattle.layout.specs.Laws.Records.{length-pack}
 use Rattle.image.specs.Laws.Writing.{stored-long, two-records}
 use borrow.Author.Needs.{needs}
@@ -13,7 +13,7 @@ unfolding room
 cast-head-values c = omega (arith, c .before .before .pre .0)
 
 put-row-requires : tie.Need-put-row-requires
-unfolding sum headWidths headValues contents bodies
+unfolding sum headWidths headValues
 put-row-requires c κs = (rw (c .before .before .before .head-values .ensures) (omega arith), omega (arith, c .before .before .before .before .before .before .pre .1))
 
 put-row-requires-2 : tie.Need-put-row-requires-2

@@ -4,7 +4,7 @@ use borrow.Author.Tests.{eq-eqb, ne-eqb}
 use borrow.Author.Needs.{needs}
 use Rattle.model.specs.Table.{room, freshTable}
 use Rattle.layout.specs.Bytes.{sum}
-use Rattle.layout.specs.Layout.{headWidths, sharedWidths, portWidths, copiedWidths, copiesWidths, bodies, size, sharedPlace, portPlace}
+use Rattle.layout.specs.Layout.{headWidths, sharedWidths, portWidths, copiedWidths, copiesWidths, portPlace, copiesPlace, size}
 use Rattle.image.specs.Laws.Reading.{sharedIn, ports-fit, positive}
 use Rattle.image.proofs.parts.shared_in.Statement.{statement}
 use Rattle.image.proofs.parts.shared_in.Tie as tie
@@ -18,7 +18,7 @@ unfolding room
 cast-port-place c = omega (arith, c .before .before .pre (positive _ (c .if1 .left)), ports-fit (c .before .before .args .bytes .now) .0)
 
 shared-at-requires : tie.Need-shared-at-requires
-unfolding sum headWidths sharedWidths portWidths copiedWidths copiesWidths bodies size sharedPlace portPlace
+unfolding sum headWidths sharedWidths portWidths copiedWidths copiesWidths portPlace copiesPlace size
 shared-at-requires c κs =
     let s = c .before .before .before in
     let h = ports-fit (s .args .bytes .now) in
@@ -27,7 +27,7 @@ shared-at-requires c κs =
     (omega (arith, l), omega (arith, l, e, c .port-place .ensures))
 
 returns-2 : tie.Need-returns-2
-unfolding sharedIn sharedPlace headWidths sum
+unfolding sharedIn headWidths sum
 returns-2 c =
     c .shared-at .ensures ∙ rw (c .before .port-place .ensures, ne-eqb _ _ (c .before .before .if1 .left))
 

@@ -14,7 +14,7 @@ use Rattle.model.specs.Table.{room, Sized, noPort, noCopies, portAt}
 use Rattle.model.specs.Good.{placeGood, everyBelow}
 use Rattle.rules.specs.Check.{place-turn, turn}
 use Rattle.layout.specs.Bytes.{sum, pack}
-use Rattle.layout.specs.Layout.{headWidths, sharedWidths, portWidths, copiedWidths, copiesWidths, portValues, copiedValues, copiesValues, bodies, size}
+use Rattle.layout.specs.Layout.{headWidths, sharedWidths, portWidths, copiedWidths, copiesWidths, portValues, copiedValues, copiesValues, portPlace, copiesPlace, size}
 use Rattle.layout.specs.Laws.Records.{length-pack}
 use Rattle.image.specs.Image.{encode, written, roomAfter}
 use Rattle.image.specs.Laws.Writing.{Writing, wrote, then, write-start, record-fits, rows, row-fits, row-turn, row-end, length-encode, begun, answer-short, answer-done}
@@ -235,7 +235,7 @@ returns-3 c =
     (rw e, rw e)
 
 put-start-requires : tie.Need-put-start-requires Inv-loop μ-loop Inv-loop2 μ-loop2 Inv-loop3 μ-loop3
-unfolding sum headWidths sharedWidths portWidths copiedWidths copiesWidths bodies size
+unfolding sum headWidths sharedWidths portWidths copiedWidths copiesWidths portPlace copiesPlace size
 put-start-requires c κs = (small (c .before), omega (arith, enough (c .before)))
 
 loop2-holds : tie.Need-loop2-holds Inv-loop μ-loop Inv-loop2 μ-loop2 Inv-loop3 μ-loop3
