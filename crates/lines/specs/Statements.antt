@@ -5,13 +5,13 @@ use Prim.Native.Nat.{ℕ}
 use Rattle.lines.specs.declared.Part.{Part}
 use Rattle.lines.specs.declared.Stage.{Stage}
 use Rattle.lines.specs.declared.Act.{Act}
-use Rattle.lines.specs.Reading.{read, act, live, cutOff}
+use Rattle.lines.specs.Reading.{act, live, cutOff}
 use Rattle.lines.specs.Parts.{Fair, Told}
 use Rattle.lines.specs.Laws.Parts.{told}
 
--- What a byte makes of a part of a line is what the line's definition says: more bytes of the line; a line that is well formed, with its letter and
--- number; or a line that is malformed whatever follows
-pub reading-right : (p : Part) (b : ℕ) → Fair p → Told p b (read p b)
+-- What a run does with a byte is what the line's definition says: it keeps more bytes of the line; it opens a table or orders an event where the line, now
+-- whole, says so; or it ends, and no line that goes on in this way does so
+pub reading-right : (s : Stage) (p : Part) (b : ℕ) → Fair p → Told s p b (act s p b)
 reading-right = told
 
 -- Two results that meet a promise are equal

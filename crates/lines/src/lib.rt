@@ -1,14 +1,12 @@
 // A schedule's lines, read byte by byte: what has been read of a line, and what a run does with it.
 pub mod reading;
 
-// What has been read of a line that is not ended yet: its letter, and the values of its digits.
+// What has been read of a line that is not ended yet: its letter, and its number so far.
 pub enum Part {
     Nothing,
     Letter(u8),
     Space(u8),
-    One(u8, u8),
-    Two(u8, u8, u8),
-    Three(u8, u8, u8, u8),
+    Number(u8, u64),
 }
 
 // Where a run stands: before its first line is read, among its events, or at its end.
@@ -16,13 +14,6 @@ pub enum Stage {
     Opening,
     Running,
     Over,
-}
-
-// What a byte makes of a line: more of it, a whole line of a letter and a number, or one that is malformed.
-pub enum Read {
-    More(Part),
-    Line(u8, u64),
-    Malformed,
 }
 
 // What a run does with a byte: it keeps what it has read of a line, opens a table of so many ports, carries out an event at a port, or ends at a

@@ -1,10 +1,10 @@
 // A schedule's lines, read byte by byte.
 use crate::Act;
 use crate::Part;
-use crate::Read;
 use crate::Stage;
 use rules::good;
 ghost use mathlib.Core.Path.{_≡_};
+ghost use Prim.Native.Nat.{_-_};
 ghost use Rattle.lines.specs.Line as Line;
 ghost use Rattle.lines.specs.Reading as Reading;
 
@@ -23,66 +23,10 @@ fn is_digit(b: u8) -> bool
 }
 
 // A digit's value; 0 of a byte below the digits.
-fn value(b: u8) -> u8
-    ensures { λ r. ⌜ r ≡ Line.value b ⌝ }
+fn value(b: u8) -> u64
+    ensures { λ r. ⌜ r ≡ b - 48 ⌝ }
 {
-    if ZERO <= b { b - ZERO } else { 0 }
-}
-
-fn wide(x: u8) -> u64
-    ensures { λ r. ⌜ r ≡ x ⌝ }
-{
-    x as u64
-}
-
-// What a byte makes of a part of a line. A few bytes decide that a line is malformed, however long it is.
-fn read(part: Part, b: u8) -> Read
-    ensures { λ r. ⌜ r ≡ Reading.read part b ⌝ }
-{
-    match part {
-        Part::Nothing => {
-            if b == NEWLINE {
-                return Read::Malformed;
-            }
-            Read::More(Part::Letter(b))
-        }
-        Part::Letter(l) => {
-            if b == SPACE {
-                return Read::More(Part::Space(l));
-            }
-            Read::Malformed
-        }
-        Part::Space(l) => {
-            if is_digit(b) {
-                return Read::More(Part::One(l, value(b)));
-            }
-            Read::Malformed
-        }
-        Part::One(l, x) => {
-            if b == NEWLINE {
-                return Read::Line(l, wide(x));
-            }
-            if is_digit(b) & !(x == 0) {
-                return Read::More(Part::Two(l, x, value(b)));
-            }
-            Read::Malformed
-        }
-        Part::Two(l, x, y) => {
-            if b == NEWLINE {
-                return Read::Line(l, 10 * wide(x) + wide(y));
-            }
-            if is_digit(b) {
-                return Read::More(Part::Three(l, x, y, value(b)));
-            }
-            Read::Malformed
-        }
-        Part::Three(l, x, y, z) => {
-            if b == NEWLINE {
-                return Read::Line(l, 100 * wide(x) + 10 * wide(y) + wide(z));
-            }
-            Read::Malformed
-        }
-    }
+    if ZERO <= b { (b - ZERO) as u64 } else { 0 }
 }
 
 // The event that a letter stands for, or 0.
@@ -135,15 +79,38 @@ fn line_act(stage: Stage, letter: u8, n: u64) -> Act
     }
 }
 
-// What a run does with a byte.
+// What a run does with a byte. A few bytes decide that a line is malformed, however long it is.
 pub fn act(stage: Stage, part: Part, b: u8) -> Act
     ensures { λ r. ⌜ r ≡ Reading.act stage part b ⌝ }
 {
-    let got = read(part, b);
-    match got {
-        Read::More(p) => Act::Keep(p),
-        Read::Line(letter, n) => line_act(stage, letter, n),
-        Read::Malformed => Act::Bad,
+    match part {
+        Part::Nothing => {
+            if b == NEWLINE {
+                return Act::Bad;
+            }
+            Act::Keep(Part::Letter(b))
+        }
+        Part::Letter(l) => {
+            if b == SPACE {
+                return Act::Keep(Part::Space(l));
+            }
+            Act::Bad
+        }
+        Part::Space(l) => {
+            if is_digit(b) {
+                return Act::Keep(Part::Number(l, value(b)));
+            }
+            Act::Bad
+        }
+        Part::Number(l, n) => {
+            if b == NEWLINE {
+                return line_act(stage, l, n);
+            }
+            if is_digit(b) & (0 < n) & (n < 100) {
+                return Act::Keep(Part::Number(l, 10 * n + value(b)));
+            }
+            Act::Bad
+        }
     }
 }
 
@@ -160,15 +127,13 @@ pub fn live(stage: Stage) -> bool
 
 // A line has begun.
 fn begun(part: Part) -> bool
-    ensures { λ r. ⌜ r ≡ Reading.begun part ⌝ }
+    ensures { λ r. ⌜ r ≡ Reading.cutOff Stage.Running part ⌝ }
 {
     match part {
         Part::Nothing => false,
         Part::Letter(_) => true,
         Part::Space(_) => true,
-        Part::One(_, _) => true,
-        Part::Two(_, _, _) => true,
-        Part::Three(_, _, _, _) => true,
+        Part::Number(_, _) => true,
     }
 }
 

@@ -9,12 +9,12 @@ use Rattle.model.specs.declared.Table.{Table}
 use Rattle.model.specs.Good.{good}
 use Rattle.model.specs.Event.{numberOf, event}
 use Rattle.model.specs.Laws.Paid.{no-port}
-use Rattle.lines.specs.Line.{space}
-use Rattle.text.specs.Text.{decimal, readOn, dash, cell, pointText, stateText, fitting}
+use Rattle.lines.specs.Line.{space, valueOf}
+use Rattle.text.specs.Text.{decimal, dash, cell, pointText, stateText, fitting}
 use Rattle.text.specs.Laws.Value.{read-back}
 
 -- 'All numbers in decimal': the digits of a number stand for it
-pub in-decimal : (n : ℕ) → readOn 0 (decimal n) ≡ n
+pub in-decimal : (n : ℕ) → valueOf (decimal n) ≡ n
 in-decimal = read-back
 
 -- 'Point after (`-` if no such port)': a port at or above D is answered 2 and `-`, whatever the event

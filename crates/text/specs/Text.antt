@@ -2,7 +2,7 @@
 -- cached cost, distributed cost, all numbers in decimal; and `BAD` with its number for a malformed line.
 use mathlib.Core.Bool.{cond}
 use mathlib.Core.List.{List, [], _∷_, _++_}
-use Prim.Native.Nat.{ℕ, zero, suc, _+_, _*_, _/_, _%_}
+use Prim.Native.Nat.{ℕ, zero, suc, _+_, _/_, _%_}
 use lib.Dec.{eqb, ltb, leb}
 use Rattle.model.specs.declared.Answer.{Answer}
 use Rattle.model.specs.declared.Shared.{Shared}
@@ -10,7 +10,7 @@ use Rattle.model.specs.declared.Outcome.{Outcome}
 use Rattle.model.specs.Table.{portAt}
 use Rattle.model.specs.Event.{numberOf}
 use Rattle.text.specs.declared.Row.{Row}
-use Rattle.lines.specs.Line.{newline, space, nought, value}
+use Rattle.lines.specs.Line.{newline, space, nought}
 
 -- the digits of n, in at most as many turns as are given; n is large enough for a turn to each of its digits
 unfoldable pub digitsIn : ℕ → ℕ → List ℕ
@@ -19,11 +19,6 @@ digitsIn (suc turns) n = cond (ltb n 10) ((nought + n) ∷ []) (digitsIn turns (
 
 unfoldable pub decimal : ℕ → List ℕ
 decimal n = digitsIn (suc n) n
-
--- the number that digits stand for, read from the left, after a number that was read before them
-abbrev pub readOn : ℕ → List ℕ → ℕ
-readOn n [] = n
-readOn n (d ∷ ds) = readOn (10 * n + value d) ds
 
 -- the byte between the parts of the word, and the one for no point
 abbrev pub dot : ℕ

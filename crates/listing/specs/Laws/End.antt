@@ -1,73 +1,59 @@
 -- What the end of an input prints, and with it every chain of calls: the listing.
 use mathlib.Core.Path.{_≡_, refl, sym, ap, _∙_}
 use mathlib.Core.Bool.{Bool, true, false, cond, _&&_, true≢false}
-use mathlib.Core.List.{List, [], _∷_, _++_}
+use mathlib.Core.List.{List, [], _∷_, _++_, append-nil}
 use Prim.Native.Nat.{ℕ, _+_, _<_}
 use native.Mathlib.Omega.{arith}
 use lib.ListN.{length, drop, length-append, length-drop}
 use Rattle.model.specs.declared.Table.{Table}
 use Rattle.lines.specs.declared.Part.{Part}
-use Rattle.lines.specs.declared.Part.the-variants.{Nothing, Letter, Space, One, Two, Three}
+use Rattle.lines.specs.declared.Part.the-variants.{Nothing, Letter, Space, Number}
 use Rattle.lines.specs.declared.Stage.{Stage}
 use Rattle.lines.specs.declared.Stage.the-variants.{Opening, Running, Over}
 use Rattle.listing.specs.declared.Run.{Run}
-use Rattle.lines.specs.Line.{nought, digit, leading, numeral, wellFormed, before, lines}
+use Rattle.lines.specs.Line.{lines}
 use Rattle.text.specs.Text.{bad}
 use Rattle.listing.specs.Listing.{listed, opened, listing}
-use Rattle.lines.specs.Reading.{begun, cutOff, live}
+use Rattle.lines.specs.Reading.{cutOff, live}
 use Rattle.listing.specs.Feed.{feeding, ended, starting}
 use Rattle.listing.specs.Chain.{Prints, finished, over, fed}
 use Rattle.lines.specs.Laws.Lines.{Clear}
-use Rattle.lines.specs.Parts.{bytesOf, Fair}
-use Rattle.lines.specs.Laws.Parts.{fair-clear, digit-clear, never}
-use Rattle.listing.specs.Laws.Pieces.{rest, restBy, First, opened-bad, listed-bad, sure-fresh, Ready, passes}
+use Rattle.lines.specs.Parts.{shown, bytesOf, Fair}
+use Rattle.lines.specs.Laws.Parts.{fair-clear, unended, unfit}
+use Rattle.listing.specs.Laws.Pieces.{rest, restBy, First, sure-fresh, Ready, passes}
 
 -- bytes without a newline are one line
 one-line : (x : ℕ) (xs : List ℕ) → Clear (x ∷ xs) → lines (x ∷ xs) ≡ (x ∷ xs) ∷ []
-unfolding lines before
+unfolding lines
 one-line x [] c = rw (c .0)
 one-line x (y ∷ xs) c = rw (c .0, one-line y xs (c .1))
 
--- a line that is not ended is malformed
-unended : (p : Part) → wellFormed (bytesOf p) ≡ false
-unfolding wellFormed numeral
-unended Nothing = refl
-unended (Letter l) = refl
-unended (Space l) = refl
-unended (One l x) = refl
-unended (Two l x y) = rw (digit-clear y) (never (digit (nought + x)))
-unended (Three l x y z) = rw (digit-clear z) (never (leading (nought + x) && digit (nought + y)))
-
 -- the bytes of a line that has begun are one line
-alone : (p : Part) → begun p ≡ true → Fair p → lines (bytesOf p ++ []) ≡ bytesOf p ∷ []
+alone : (p : Part) → cutOff Running p ≡ true → Fair p → lines (bytesOf p ++ []) ≡ bytesOf p ∷ []
 alone Nothing b f = absurd (true≢false (sym b))
 alone (Letter l) b f = one-line _ _ (fair-clear (Letter l) f)
 alone (Space l) b f = one-line _ _ (fair-clear (Space l) f)
-alone (One l x) b f = one-line _ _ (fair-clear (One l x) f)
-alone (Two l x y) b f = one-line _ _ (fair-clear (Two l x y) f)
-alone (Three l x y z) b f = one-line _ _ (fair-clear (Three l x y z) f)
+alone (Number l n) b f = rw (append-nil (shown n)) (one-line _ _ (fair-clear (Number l n) f))
 
 -- where a line has not begun, there is no byte of it
-unbegun : (p : Part) → begun p ≡ false → bytesOf p ≡ []
+unbegun : (p : Part) → cutOff Running p ≡ false → bytesOf p ≡ []
 unbegun Nothing b = refl
 unbegun (Letter l) b = absurd (true≢false b)
 unbegun (Space l) b = absurd (true≢false b)
-unbegun (One l x) b = absurd (true≢false b)
-unbegun (Two l x y) b = absurd (true≢false b)
-unbegun (Three l x y z) b = absurd (true≢false b)
+unbegun (Number l n) b = absurd (true≢false b)
 
 end-of : (s : Stage) (t : Table) (n : ℕ) (p : Part) → Fair p → First s n
     → cond (cutOff s p) (bad n) [] ≡ restBy s t n (lines (bytesOf p ++ []))
 unfolding lines opened listed
-end-of Opening t n p f i = rw i (go (begun p) refl)
+end-of Opening t n p f i = rw i (go (cutOff Running p) refl)
   where
-    go : (b : Bool) → begun p ≡ b → bad 0 ≡ opened (lines (bytesOf p ++ []))
-    go true e = rw (alone p e f) (sym (opened-bad (bytesOf p) [] (unended p)))
+    go : (b : Bool) → cutOff Running p ≡ b → bad 0 ≡ opened (lines (bytesOf p ++ []))
+    go true e = rw (alone p e f, unfit Opening (bytesOf p) (unended p))
     go false e = rw (unbegun p e)
-end-of Running t n p f i = go (begun p) refl
+end-of Running t n p f i = go (cutOff Running p) refl
   where
-    go : (b : Bool) → begun p ≡ b → cond (begun p) (bad n) [] ≡ listed t n (lines (bytesOf p ++ []))
-    go true e = rw (e, alone p e f) (sym (listed-bad (bytesOf p) [] t n (unended p)))
+    go : (b : Bool) → cutOff Running p ≡ b → cond (cutOff Running p) (bad n) [] ≡ listed t n (lines (bytesOf p ++ []))
+    go true e = rw (e, alone p e f, unfit Running (bytesOf p) (unended p))
     go false e = rw (e, unbegun p e)
 end-of Over t n p f i = refl
 

@@ -21,18 +21,16 @@ use Rattle.model.specs.Laws.Paid.{paid-event}
 use Rattle.lines.specs.declared.Part.{Part}
 use Rattle.lines.specs.declared.Stage.{Stage}
 use Rattle.lines.specs.declared.Stage.the-variants.{Opening, Running, Over}
-use Rattle.lines.specs.declared.Read.{Read}
-use Rattle.lines.specs.declared.Read.the-variants.{More, Line, Malformed}
 use Rattle.lines.specs.declared.Act.{Act}
 use Rattle.lines.specs.declared.Act.the-variants.{Keep, Open, Order, Bad}
 use Rattle.listing.specs.declared.Run.{Run}
-use Rattle.lines.specs.Line.{newline, wellFormed, letter, number, eventOf, isOpening, isEvent, opens, orders, lines}
+use Rattle.lines.specs.Line.{newline, letter, wellFormed, number, opens, orders, lines}
 use Rattle.text.specs.Text.{longest, printed, rowOf, bad}
 use Rattle.listing.specs.Listing.{listed, opened}
-use Rattle.lines.specs.Reading.{read, readAct, lineAct, act, live}
+use Rattle.lines.specs.Reading.{act, live}
 use Rattle.listing.specs.Feed.{acted, actText, Given, nothing, after, feeding}
 use Rattle.lines.specs.Laws.Lines.{restOfLine, first-line}
-use Rattle.lines.specs.Parts.{bytesOf, Fair, Told}
+use Rattle.lines.specs.Parts.{bytesOf, Fair, fits, whole, Told}
 use Rattle.lines.specs.Laws.Parts.{fair-clear, told}
 
 -- what a run prints from here on: the lines of what it has read of a line and of what is left of the input
@@ -49,27 +47,6 @@ abbrev pub First : Stage → ℕ → Type 0
 First Opening n = n ≡ 0
 First Running n = Unit {0}
 First Over n = Unit {0}
-
--- a well-formed line and a malformed one, first and later
-module _ (line : List ℕ) (ls : List (List ℕ)) where
-  opened-line : (l n : ℕ) → wellFormed line ≡ true → letter line ≡ l → number line ≡ n
-      → opened (line ∷ ls) ≡ cond (isOpening l n) (listed (freshTable n) 1 ls) (bad 0)
-  unfolding opened opens
-  opened-line l n w p q = rw (w, p, q)
-
-  pub opened-bad : wellFormed line ≡ false → opened (line ∷ ls) ≡ bad 0
-  unfolding opened opens
-  opened-bad w = rw w
-
-  listed-line : (t : Table) (k l n : ℕ) → wellFormed line ≡ true → letter line ≡ l → number line ≡ n
-      → listed t k (line ∷ ls)
-      ≡ cond (isEvent l) (printed (rowOf k l n (event t n (eventOf l))) ++ listed (event t n (eventOf l) .table) (k + 1) ls) (bad k)
-  unfolding listed orders
-  listed-line t k l n w p q = rw (w, p, q)
-
-  pub listed-bad : (t : Table) (k : ℕ) → wellFormed line ≡ false → listed t k (line ∷ ls) ≡ bad k
-  unfolding listed orders
-  listed-bad t k w = rw w
 
 -- the table of a run that its own calls can give: a good one
 pub record Sure (t : Table) : Type 0 where
@@ -96,9 +73,9 @@ abbrev at : Stage → Table → ℕ → Part → Run
 at s t n p = record { table = t; number = n; part = p; stage = s }
 
 module _ (t : Table) (n : ℕ) (p : Part) (b : ℕ) (bs : List ℕ) (f : Fair p) (h : n + 1 < 18446744073709551616) (y : Sure t) where
-  after-more : (s : Stage) (q : Part) → Told p b (More q) → First s n → Step (at s t n p) b bs (Keep q)
+  after-keep : (s : Stage) (q : Part) → Told s p b (Keep q) → First s n → Step (at s t n p) b bs (Keep q)
   unfolding acted actText
-  after-more s q d i =
+  after-keep s q d i =
       record {
         text = ap (λ (xs : List ℕ). restBy s t n (lines xs)) (sym (append-snoc (bytesOf p) b bs) ∙ ap (λ (xs : List ℕ). xs ++ bs) (sym (d .0)));
         fair = d .1;
@@ -108,14 +85,14 @@ module _ (t : Table) (n : ℕ) (p : Part) (b : ℕ) (bs : List ℕ) (f : Fair p)
       }
 
   -- the line that the byte stands in, malformed
-  malformed : Told p b Malformed → wellFormed (bytesOf p ++ b ∷ restOfLine b bs) ≡ false
-  malformed d = d (restOfLine b bs) (λ e. rw (eq-eqb b newline e))
+  malformed : (s : Stage) → Told s p b Bad → fits s (bytesOf p ++ b ∷ restOfLine b bs) ≡ false
+  malformed s d = d (restOfLine b bs) (λ e. rw (eq-eqb b newline e))
 
-  after-bad : (s : Stage) → live s ≡ true → Told p b Malformed → First s n → Step (at s t n p) b bs Bad
-  unfolding acted actText
+  after-bad : (s : Stage) → live s ≡ true → Told s p b Bad → First s n → Step (at s t n p) b bs Bad
+  unfolding acted actText opened listed
   after-bad Opening v d i =
       record {
-        text = rw (first-line (bytesOf p) b bs (fair-clear p f), i) (opened-bad _ _ (malformed d) ∙ sym (append-nil (bad 0)));
+        text = rw (first-line (bytesOf p) b bs (fair-clear p f), malformed Opening d, i) (sym (append-nil (bad 0)));
         fair = f;
         first = tt;
         count = omega arith;
@@ -123,7 +100,7 @@ module _ (t : Table) (n : ℕ) (p : Part) (b : ℕ) (bs : List ℕ) (f : Fair p)
       }
   after-bad Running v d i =
       record {
-        text = rw (first-line (bytesOf p) b bs (fair-clear p f)) (listed-bad _ _ t n (malformed d) ∙ sym (append-nil (bad n)));
+        text = rw (first-line (bytesOf p) b bs (fair-clear p f), malformed Running d) (sym (append-nil (bad n)));
         fair = f;
         first = tt;
         count = omega arith;
@@ -131,63 +108,43 @@ module _ (t : Table) (n : ℕ) (p : Part) (b : ℕ) (bs : List ℕ) (f : Fair p)
       }
   after-bad Over v d i = absurd (true≢false (sym v))
 
-  -- the line that the byte ends, well formed, and the lines after it
-  module _ (l m : ℕ) (d : Told p b (Line l m)) where
-    ended-line : lines (bytesOf p ++ b ∷ bs) ≡ (bytesOf p ++ newline ∷ []) ∷ lines bs
-    ended-line = rw (d .0) (first-line (bytesOf p) newline bs (fair-clear p f))
+  -- the line that the byte ends, and the lines after it
+  ended-line : b ≡ newline → lines (bytesOf p ++ b ∷ bs) ≡ whole p ∷ lines bs
+  ended-line e = rw e (first-line (bytesOf p) newline bs (fair-clear p f))
 
-    after-opening : First Opening n → Step (at Opening t n p) b bs (lineAct Opening l m)
-    unfolding acted actText isOpening fresh
-    after-opening i =
-        split (Step (at Opening t n p) b bs) (isOpening l m) (Open m) Bad
-        (λ e.
-        record {
-          text =
-              rw (ended-line)
-              (opened-line _ _ l m (d .1) (d .2) (d .3)
-              ∙ (rw (e, and-eq-true-iff (eqb l 68) (sizeGood m) .0 e .1)));
-          fair = tt;
-          first = tt;
-          count = omega arith;
-          sure = sure-fresh m;
-        })
-        (λ e.
-        record {
-          text = rw (ended-line, i) (opened-line _ _ l m (d .1) (d .2) (d .3) ∙ (rw e (sym (append-nil (bad 0)))));
-          fair = f;
-          first = tt;
-          count = omega arith;
-          sure = y;
-        })
+  after-open : (m : ℕ) → Told Opening p b (Open m) → Step (at Opening t n p) b bs (Open m)
+  unfolding acted actText opened opens fresh
+  after-open m d =
+      let g = and-eq-true-iff (wellFormed (whole p) && eqb (letter (whole p)) 68) (sizeGood (number (whole p))) .0 (d .1) .1 in
+      record {
+        text = rw (ended-line (d .0), d .1, d .2, rw (d .2) at g);
+        fair = tt;
+        first = tt;
+        count = omega arith;
+        sure = sure-fresh m;
+      }
 
-    after-order : Step (at Running t n p) b bs (lineAct Running l m)
-    unfolding acted actText
-    after-order =
-        let k : (n + 1) % 18446744073709551616 ≡ n + 1 = omega (arith, h) in
-        split (Step (at Running t n p) b bs) (isEvent l) (Order l (eventOf l) m) Bad
-        (λ e.
-        record {
-          text = rw (ended-line) (listed-line _ _ t n l m (d .1) (d .2) (d .3) ∙ (rw (e, k, paid-event t m (eventOf l) (y .sound))));
-          fair = tt;
-          first = tt;
-          count = omega (arith, k);
-          sure = sure-order t m (eventOf l) y;
-        })
-        (λ e.
-        record {
-          text = rw (ended-line) (listed-line _ _ t n l m (d .1) (d .2) (d .3) ∙ (rw e (sym (append-nil (bad n)))));
-          fair = f;
-          first = tt;
-          count = omega arith;
-          sure = y;
-        })
+  after-order : (l e m : ℕ) → Told Running p b (Order l e m) → Step (at Running t n p) b bs (Order l e m)
+  unfolding acted actText listed
+  after-order l e m d =
+      let k : (n + 1) % 18446744073709551616 ≡ n + 1 = omega (arith, h) in
+      record {
+        text = rw (ended-line (d .0), d .1, d .2, d .3, d .4, k, paid-event t m e (y .sound));
+        fair = tt;
+        first = tt;
+        count = omega (arith, k);
+        sure = sure-order t m e y;
+      }
 
-  after-read : (s : Stage) (q : Read) → live s ≡ true → Told p b q → First s n → Step (at s t n p) b bs (readAct s q)
-  after-read s (More q) v d i = after-more s q d i
-  after-read s Malformed v d i = after-bad s v d i
-  after-read Opening (Line l m) v d i = after-opening l m d i
-  after-read Running (Line l m) v d i = after-order l m d
-  after-read Over (Line l m) v d i = absurd (true≢false (sym v))
+  after-act : (s : Stage) (a : Act) → live s ≡ true → Told s p b a → First s n → Step (at s t n p) b bs a
+  after-act s (Keep q) v d i = after-keep s q d i
+  after-act s Bad v d i = after-bad s v d i
+  after-act Opening (Open m) v d i = after-open m d
+  after-act Running (Open m) v d i = absurd d
+  after-act Over (Open m) v d i = absurd d
+  after-act Opening (Order l e m) v d i = absurd d
+  after-act Running (Order l e m) v d i = after-order l e m d
+  after-act Over (Order l e m) v d i = absurd d
 
 -- a run that its own calls can give: a part of a line that reading gives, line 0 before the first line, and a good table
 pub record Ready (r : Run) : Type 0 where
@@ -213,8 +170,8 @@ passes (b ∷ bs) room r more y h =
     (nothing r)
     (λ e.
     let v = and-eq-true-iff (leb longest room) (live (r .stage)) .0 e .1 in
-    let s = after-read (r .table) (r .number) (r .part) b (bs ++ more) (y .fair) (omega (arith, h)) (y .sure) (r .stage) (read (r .part) b) v
-    (told (r .part) b (y .fair))
+    let s = after-act (r .table) (r .number) (r .part) b (bs ++ more) (y .fair) (omega (arith, h)) (y .sure) (r .stage) a v
+    (told (r .stage) (r .part) b (y .fair))
     (y .first) in
     let k = passes bs (room - length (actText r a)) (acted r a) more (record { fair = s .fair; first = s .first; sure = s .sure }) (omega (arith, h, s .count)) in
     record {

@@ -1,25 +1,69 @@
+use Prim.Native.Nat.{_<_}
+use native.Mathlib.Omega.{arith}
+use borrow.Author.Tests.{ne-eqb}
 use borrow.Author.Needs.{needs}
+use Rattle.lines.specs.Laws.Parts.{going-on}
 use Rattle.lines.proofs.reading.act.Statement.{statement}
 use Rattle.lines.proofs.reading.act.Tie as tie
 
 returns : tie.Need-returns
-returns c = rw (← (c .before .before .before .read .ensures), c .before .got .given .1)
+returns c = rw (c .before .enum-told .given .1, c .if1 .taken)
 
 returns-2 : tie.Need-returns-2
-returns-2 c = rw (← (c .before .before .before .before .read .ensures), c .before .before .got2 .given .1) (c .line-act .ensures)
+returns-2 c = rw (c .before .before .part .given .1, c .if2 .taken)
 
 returns-3 : tie.Need-returns-3
-returns-3 c = rw (← (c .before .before .read .ensures), c .enum-told .given .1)
+returns-3 c = rw (c .before .before .before .before .part2 .given .1, ← (c .before .before .is-digit .ensures), c .before .if3 .taken, c .value .ensures)
+
+returns-4 : tie.Need-returns-4
+returns-4 c = rw (c .before .before .before .part3 .given .1, c .before .if4 .taken) (c .line-act .ensures)
+
+-- a number that goes on
+small : (c : tie.Then5) → c .before .before .before .before .part3 .given .0 .1 .0 < 100
+small c = going-on (c .before .is-digit2 .result) _ (c .if5 .taken) .2
+
+mul-t21 : tie.Need-mul-t21
+mul-t21 c = omega (arith, small c)
+
+add-t23 : tie.Need-add-t23
+add-t23 c = omega (arith, small (c .before), c .value2 .ensures, c .before .before .before .before .before .before .before .fits .b .fits)
+
+returns-5 : tie.Need-returns-5
+returns-5 c = rw (c .before .before .before .before .before .part3 .given .1, ne-eqb _ _ (c .before .before .before .if4 .left), ← (c .before .before .is-digit2 .ensures), c .before .if5 .taken, c .value2 .ensures)
+
+returns-6 : tie.Need-returns-6
+returns-6 c = rw (c .before .enum-told .given .1, ne-eqb _ _ (c .if1 .left))
+
+returns-7 : tie.Need-returns-7
+returns-7 c = rw (c .before .before .part .given .1, ne-eqb _ _ (c .if2 .left))
+
+returns-8 : tie.Need-returns-8
+returns-8 c = rw (c .before .before .before .part2 .given .1, ← (c .before .is-digit .ensures), c .if3 .left)
+
+returns-9 : tie.Need-returns-9
+returns-9 c = rw (c .before .before .before .before .part3 .given .1, ne-eqb _ _ (c .before .before .if4 .left), ← (c .before .is-digit2 .ensures), c .if5 .left)
 
 pub act-spec : {M : Type 1} → statement M
 act-spec =
     tie.close
     (tie.spec
-    (λ c κs. search needs)
-    (λ c. search needs)
-    (λ c. search needs)
-    (λ c κs. search needs)
     (λ c. search needs)
     returns
+    (λ c. search needs)
     returns-2
-    returns-3)
+    (λ c. search needs)
+    (λ c κs. search needs)
+    (λ c κs. search needs)
+    returns-3
+    (λ c. search needs)
+    (λ c κs. search needs)
+    returns-4
+    (λ c κs. search needs)
+    mul-t21
+    (λ c κs. search needs)
+    add-t23
+    returns-5
+    returns-6
+    returns-7
+    returns-8
+    returns-9)

@@ -1,14 +1,11 @@
-use Rattle.lines.specs.Line.{isOpening}
 use borrow.Author.Needs.{needs}
 use Rattle.lines.proofs.reading.opening.Statement.{statement}
 use Rattle.lines.proofs.reading.opening.Tie as tie
 
 returns : tie.Need-returns
-unfolding isOpening
 returns c = rw (← (c .before .size-good .ensures), c .if1 .taken)
 
 returns-2 : tie.Need-returns-2
-unfolding isOpening
 returns-2 c = rw (← (c .before .size-good .ensures), c .if1 .left)
 
 pub opening-spec : {M : Type 1} → statement M

@@ -1,15 +1,12 @@
 use borrow.Author.Tests.{ne-eqb}
-use Rattle.lines.specs.Line.{isEvent}
 use borrow.Author.Needs.{needs}
 use Rattle.lines.proofs.reading.ordering.Statement.{statement}
 use Rattle.lines.proofs.reading.ordering.Tie as tie
 
 returns : tie.Need-returns
-unfolding isEvent
 returns c = rw (← (c .before .event-of .ensures), c .if1 .taken)
 
 returns-2 : tie.Need-returns-2
-unfolding isEvent
 returns-2 c = rw (← (c .before .event-of .ensures), ne-eqb _ _ (c .if1 .left))
 
 pub ordering-spec : {M : Type 1} → statement M
