@@ -16,6 +16,7 @@ ghost use mathlib.Core.Path.{_≡_};
 ghost use Prim.Native.Nat.{_≤_};
 ghost use lib.ListN.{length};
 ghost use lib.Seq.{sets};
+ghost use Rattle.model.specs.Event.{numberOf};
 ghost use Rattle.model.specs.Table.{portAt};
 ghost use Rattle.text.specs.Text as Text;
 ghost use Rattle.listing.specs.Feed as Feed;
@@ -56,20 +57,27 @@ fn row(
     cached: u64,
     distributed: u64,
 ) -> Row
-    ensures { λ r. ⌜ r ≡ Text.rowIn number letter port answer point shared cached distributed ⌝ }
+    ensures { λ r. ⌜
+        r ≡ record {
+          number = number;
+          letter = letter;
+          port = port;
+          answer = numberOf answer;
+          point = point;
+          shared = shared;
+          cached = cached;
+          distributed = distributed;
+        }
+        ⌝ }
 {
-    let word = shared.word;
     Row {
         number,
         port,
         answer: answers::number(answer),
         point,
-        active: shared.active,
         cached,
         distributed,
-        spin: word.spin as u64,
-        owner: word.owner as u64,
-        taken: word.taken as u64,
+        shared,
         letter,
     }
 }

@@ -4,8 +4,6 @@ use mathlib.Core.Bool.{cond}
 use mathlib.Core.List.{List, [], _∷_, _++_}
 use Prim.Native.Nat.{ℕ, zero, suc, _+_, _/_, _%_}
 use lib.Dec.{eqb, ltb, leb}
-use Rattle.model.specs.declared.Answer.{Answer}
-use Rattle.model.specs.declared.Shared.{Shared}
 use Rattle.model.specs.declared.Outcome.{Outcome}
 use Rattle.model.specs.Table.{portAt}
 use Rattle.model.specs.Event.{numberOf}
@@ -20,66 +18,27 @@ digitsIn (suc turns) n = cond (ltb n 10) ((nought + n) ∷ []) (digitsIn turns (
 unfoldable pub decimal : ℕ → List ℕ
 decimal n = digitsIn (suc n) n
 
--- the byte between the parts of the word, and the one for no point
-abbrev pub dot : ℕ
-dot = 46
-
-abbrev pub dash : ℕ
-dash = 45
-
 -- a number and the byte after it
 abbrev pub cell : ℕ → ℕ → List ℕ
 cell n after = decimal n ++ after ∷ []
 
--- line number, event, port
-unfoldable pub orderText : ℕ → ℕ → ℕ → List ℕ
-orderText number letter port = cell number space ++ (letter ∷ space ∷ []) ++ cell port space
-
 -- point after: `-` where the answer is NO SUCH PORT
 unfoldable pub pointText : ℕ → ℕ → List ℕ
-pointText answer point = cond (eqb answer 2) (dash ∷ space ∷ []) (cell point space)
+pointText answer point = cond (eqb answer 2) (45 ∷ space ∷ []) (cell point space)
 
--- answer, point after, ACTIVE
-unfoldable pub stateText : ℕ → ℕ → ℕ → List ℕ
-stateText answer point active = cell answer space ++ pointText answer point ++ cell active space
-
--- word as taken.owner.spin
-unfoldable pub wordText : ℕ → ℕ → ℕ → List ℕ
-wordText taken owner spin = cell taken dot ++ cell owner dot ++ cell spin space
-
--- cached cost, distributed cost
-unfoldable pub costText : ℕ → ℕ → List ℕ
-costText cached distributed = cell cached space ++ cell distributed newline
-
--- the line that is printed for an event
+-- the line that is printed for an event; byte 46 is the dot between the parts of the word
 unfoldable pub printed : Row → List ℕ
 printed r =
-    orderText (r .number) (r .letter) (r .port)
-    ++ stateText (r .answer) (r .point) (r .active)
-    ++ wordText (r .taken) (r .owner) (r .spin)
-    ++ costText (r .cached) (r .distributed)
+    (cell (r .number) space ++ (r .letter ∷ space ∷ []) ++ cell (r .port) space)
+    ++ (cell (r .answer) space ++ pointText (r .answer) (r .point) ++ cell (r .shared .active) space)
+    ++ (cell (r .shared .word .taken) 46 ++ cell (r .shared .word .owner) 46 ++ cell (r .shared .word .spin) space)
+    ++ (cell (r .cached) space ++ cell (r .distributed) newline)
 
--- what line n, with this letter and port, prints: the answer, the port's point, what all ports share, and both costs
-unfoldable pub rowIn : ℕ → ℕ → ℕ → Answer → ℕ → Shared → ℕ → ℕ → Row
-rowIn n letter port answer point shared cached distributed =
-    record {
-      number = n;
-      port = port;
-      answer = numberOf answer;
-      point = point;
-      active = shared .active;
-      cached = cached;
-      distributed = distributed;
-      spin = shared .word .spin;
-      owner = shared .word .owner;
-      taken = shared .word .taken;
-      letter = letter;
-    }
-
--- what it prints of what its event answered
+-- what line n, with the letter l and the port k, prints of what its event answered
 abbrev pub rowOf : ℕ → ℕ → ℕ → Outcome → Row
-rowOf n letter port o =
-    rowIn n letter port (o .answer) (portAt (o .table) port .point) (o .table .shared) (o .cached) (o .distributed)
+rowOf n l k o =
+    let a = numberOf (o .answer) in let p = portAt (o .table) k .point in let s = o .table .shared in
+    record { number = n; letter = l; port = k; answer = a; point = p; shared = s; cached = o .cached; distributed = o .distributed }
 
 -- `BAD` and the number of a malformed line
 unfoldable pub bad : ℕ → List ℕ

@@ -1,4 +1,5 @@
 // The lines of a listing, put into a lent buffer.
+use model::Shared;
 ghost use mathlib.Core.Path.{_≡_};
 ghost use Prim.Native.Nat.{_+_, _≤_};
 ghost use lib.Dec.{leb};
@@ -11,18 +12,15 @@ mod putting;
 // Room for the longest line.
 pub const LONGEST: usize = 256;
 
-// What is printed for an event: the line's number, the event's letter and port, the answer, the port's point, ACTIVE, the word and both costs.
+// What is printed for an event: the line's number, the event's letter and port, the answer, the port's point, what all ports share, and both costs.
 pub struct Row {
     pub number: u64,
     pub port: u64,
     pub answer: u64,
     pub point: u64,
-    pub active: u64,
     pub cached: u64,
     pub distributed: u64,
-    pub spin: u64,
-    pub owner: u64,
-    pub taken: u64,
+    pub shared: Shared,
     pub letter: u8,
 }
 

@@ -1,8 +1,10 @@
 // What is printed, put into a lent buffer from a place on; each function gives the place after it. Bytes past the buffer's end are dropped.
 use crate::Row;
+use model::Word;
 ghost use mathlib.Core.Path.{_≡_};
 ghost use Prim.Native.Nat.{_+_, _%_, _<_};
-ghost use mathlib.Core.List.{_∷_, []};
+ghost use mathlib.Core.List.{_∷_, [], _++_};
+ghost use Rattle.lines.specs.Line.{newline, space};
 ghost use Rattle.text.specs.Text as Text;
 ghost use Rattle.text.specs.Laws.Put.{Put, limit};
 
@@ -64,7 +66,7 @@ fn put_cell(out: &mut [u8], at: usize, n: u64, after: u8) -> usize
 
 fn put_order(out: &mut [u8], at: usize, number: u64, letter: u8, port: u64) -> usize
     requires { ⌜ at + 44 < limit ⌝ }
-    ensures { λ r. ⌜ Put (now (out .entry)) at (Text.orderText number letter port) 44 r (now (out .exit)) ⌝ }
+    ensures { λ r. ⌜ Put (now (out .entry)) at (Text.cell number space ++ (letter ∷ space ∷ []) ++ Text.cell port space) 44 r (now (out .exit)) ⌝ }
 {
     let a = put_cell(out, at, number, SPACE);
     let b = put(out, a, letter);
@@ -85,25 +87,25 @@ fn put_point(out: &mut [u8], at: usize, answer: u64, point: u64) -> usize
 
 fn put_state(out: &mut [u8], at: usize, answer: u64, point: u64, active: u64) -> usize
     requires { ⌜ at + 63 < limit ⌝ }
-    ensures { λ r. ⌜ Put (now (out .entry)) at (Text.stateText answer point active) 63 r (now (out .exit)) ⌝ }
+    ensures { λ r. ⌜ Put (now (out .entry)) at (Text.cell answer space ++ Text.pointText answer point ++ Text.cell active space) 63 r (now (out .exit)) ⌝ }
 {
     let a = put_cell(out, at, answer, SPACE);
     let b = put_point(out, a, answer, point);
     put_cell(out, b, active, SPACE)
 }
 
-fn put_word(out: &mut [u8], at: usize, taken: u64, owner: u64, spin: u64) -> usize
+fn put_word(out: &mut [u8], at: usize, word: Word) -> usize
     requires { ⌜ at + 63 < limit ⌝ }
-    ensures { λ r. ⌜ Put (now (out .entry)) at (Text.wordText taken owner spin) 63 r (now (out .exit)) ⌝ }
+    ensures { λ r. ⌜ Put (now (out .entry)) at (Text.cell (word .taken) 46 ++ Text.cell (word .owner) 46 ++ Text.cell (word .spin) space) 63 r (now (out .exit)) ⌝ }
 {
-    let a = put_cell(out, at, taken, DOT);
-    let b = put_cell(out, a, owner, DOT);
-    put_cell(out, b, spin, SPACE)
+    let a = put_cell(out, at, word.taken as u64, DOT);
+    let b = put_cell(out, a, word.owner as u64, DOT);
+    put_cell(out, b, word.spin as u64, SPACE)
 }
 
 fn put_costs(out: &mut [u8], at: usize, cached: u64, distributed: u64) -> usize
     requires { ⌜ at + 42 < limit ⌝ }
-    ensures { λ r. ⌜ Put (now (out .entry)) at (Text.costText cached distributed) 42 r (now (out .exit)) ⌝ }
+    ensures { λ r. ⌜ Put (now (out .entry)) at (Text.cell cached space ++ Text.cell distributed newline) 42 r (now (out .exit)) ⌝ }
 {
     let a = put_cell(out, at, cached, SPACE);
     put_cell(out, a, distributed, NEWLINE)
@@ -114,9 +116,11 @@ pub fn event_line(out: &mut [u8], at: usize, row: Row) -> usize
     requires { ⌜ at + Text.longest < limit ⌝ }
     ensures { λ r. ⌜ Put (now (out .entry)) at (Text.printed row) Text.longest r (now (out .exit)) ⌝ }
 {
+    let shared = row.shared;
+    let word = shared.word;
     let a = put_order(out, at, row.number, row.letter, row.port);
-    let b = put_state(out, a, row.answer, row.point, row.active);
-    let c = put_word(out, b, row.taken, row.owner, row.spin);
+    let b = put_state(out, a, row.answer, row.point, shared.active);
+    let c = put_word(out, b, word);
     put_costs(out, c, row.cached, row.distributed)
 }
 

@@ -1,6 +1,6 @@
 -- What a run does with a byte is what the line's definition says.
-use mathlib.Core.Path.{_≡_, refl, sym, ap, _∙_}
-use mathlib.Core.Bool.{Bool, true, false, cond, not, _&&_, _||_, and-eq-true-iff}
+use mathlib.Core.Path.{_≡_, refl}
+use mathlib.Core.Bool.{Bool, true, false, cond, _&&_, _||_, and-eq-true-iff}
 use mathlib.Core.List.{List, [], _∷_, _++_, foldr, dropLast, getLastD}
 use Prim.Native.Nat.{ℕ, suc, _+_, _-_, _*_, _/_, _%_, _≤_, _<_}
 use native.Mathlib.Omega.{arith}
@@ -13,9 +13,8 @@ use Rattle.lines.specs.declared.Part.{Part}
 use Rattle.lines.specs.declared.Part.the-variants.{Nothing, Letter, Space, Number}
 use Rattle.lines.specs.declared.Stage.{Stage}
 use Rattle.lines.specs.declared.Stage.the-variants.{Opening, Running, Over}
-use Rattle.lines.specs.declared.Act.{Act}
 use Rattle.lines.specs.declared.Act.the-variants.{Keep, Open, Order, Bad}
-use Rattle.lines.specs.Line.{newline, space, nought, digit, valueOf, letter, digits, number, wellFormed, eventOf, opens, orders}
+use Rattle.lines.specs.Line.{newline, space, nought, digit, letter, digits, number, wellFormed, eventOf, opens, orders}
 use Rattle.lines.specs.Reading.{lineAct, act}
 use Rattle.lines.specs.Parts.{shown, bytesOf, Fair, fits, whole, Told}
 use Rattle.lines.specs.Laws.Lines.{Clear}

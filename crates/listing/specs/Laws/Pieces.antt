@@ -1,6 +1,6 @@
 -- What a run prints of an input, whatever the pieces and the rooms: the listing.
 use mathlib.Core.Path.{_≡_, refl, sym, ap, _∙_}
-use mathlib.Core.Bool.{true, false, cond, _&&_, and-eq-true-iff, true≢false}
+use mathlib.Core.Bool.{true, false, _&&_, and-eq-true-iff, true≢false}
 use mathlib.Core.List.{List, [], _∷_, _++_, append-nil, append-assoc}
 use Prim.Native.Nat.{ℕ, _+_, _-_, _%_, _≤_, _<_}
 use native.Mathlib.Omega.{arith}
@@ -9,9 +9,9 @@ use lib.Dec.{eqb, leb}
 use lib.ListN.{length, drop}
 use lib.Seq.{append-snoc}
 use Rattle.model.specs.declared.Table.{Table}
-use Rattle.model.specs.Table.{Sized, freshTable}
+use Rattle.model.specs.Table.{Sized}
 use Rattle.model.specs.Good.{sizeGood, good}
-use Rattle.model.specs.Event.{event, fresh}
+use Rattle.model.specs.Event.{fresh}
 use Rattle.model.specs.Run.{order}
 use Rattle.model.specs.Paid.{paidEvent}
 use Rattle.model.specs.Laws.Tests.{split}
@@ -24,8 +24,8 @@ use Rattle.lines.specs.declared.Stage.the-variants.{Opening, Running, Over}
 use Rattle.lines.specs.declared.Act.{Act}
 use Rattle.lines.specs.declared.Act.the-variants.{Keep, Open, Order, Bad}
 use Rattle.listing.specs.declared.Run.{Run}
-use Rattle.lines.specs.Line.{newline, letter, wellFormed, number, opens, orders, lines}
-use Rattle.text.specs.Text.{longest, printed, rowOf, bad}
+use Rattle.lines.specs.Line.{newline, letter, wellFormed, number, opens, lines}
+use Rattle.text.specs.Text.{longest, bad}
 use Rattle.listing.specs.Listing.{listed, opened}
 use Rattle.lines.specs.Reading.{act, live}
 use Rattle.listing.specs.Feed.{acted, actText, Given, nothing, after, feeding}

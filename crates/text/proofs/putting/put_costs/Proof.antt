@@ -1,11 +1,9 @@
-use Rattle.text.specs.Text.{costText}
 use Rattle.text.specs.Laws.Put.{and-then}
 use borrow.Author.Needs.{needs}
 use Rattle.text.proofs.putting.put_costs.Statement.{statement}
 use Rattle.text.proofs.putting.put_costs.Tie as tie
 
 returns : tie.Need-returns
-unfolding costText
 returns c = and-then (c .before .before .before .before .before .before .put-cell .ensures) (c .before .before .put-cell2 .ensures)
 
 pub put-costs-spec : {M : Type 1} → statement M
