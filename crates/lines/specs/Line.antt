@@ -43,7 +43,8 @@ wellFormed line =
 
 -- the event that a letter, E, S, X, A or L, stands for; 0 for any other
 unfoldable pub eventOf : ℕ → ℕ
-eventOf l = cond (eqb l 69) enter (cond (eqb l 83) stepping (cond (eqb l 88) crash (cond (eqb l 65) callOff (cond (eqb l 76) leave 0))))
+eventOf l =
+    cond (eqb l 69) enter (cond (eqb l 83) stepping (cond (eqb l 88) crash (cond (eqb l 65) callOff (cond (eqb l 76) leave 0))))
 
 -- the first line: the letter D and a number of ports, 1 to the room; the line of an event
 unfoldable pub opens : List ℕ → Bool

@@ -17,7 +17,5 @@ pub data Prints : Run → List ℕ → List ℕ → Type 0 where
   over : {r : Run} {input text : List ℕ} → live (r .stage) ≡ false → text ≡ [] → Prints r input text
   -- a call on a piece of the input, and what the calls after it print
   fed : {r : Run} {input text : List ℕ} (room : ℕ) (piece more later : List ℕ)
-      → input ≡ piece ++ more
-      → text ≡ feeding room r piece .text ++ later
-      → Prints (feeding room r piece .run) (drop (feeding room r piece .taken) piece ++ more) later
-      → Prints r input text
+      → input ≡ piece ++ more → text ≡ feeding room r piece .1 ++ later
+      → Prints (feeding room r piece .0 .run) (drop (feeding room r piece .0 .taken) piece ++ more) later → Prints r input text

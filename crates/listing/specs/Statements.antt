@@ -7,15 +7,16 @@ use Prim.Native.Nat.{ℕ, _+_, _≤_, _<_, _^_}
 use lib.ListN.{length}
 use lib.Seq.{sets}
 use Rattle.model.specs.declared.Table.{Table}
+use Rattle.model.specs.Event.{event}
 use Rattle.listing.specs.declared.Run.{Run}
 use Rattle.listing.specs.declared.Fed.{Fed}
-use Rattle.lines.specs.Line.{orders, letter, number}
+use Rattle.lines.specs.Line.{orders, letter, number, eventOf}
 use Rattle.text.specs.Text.{longest, printed, rowOf, bad}
-use Rattle.listing.specs.Listing.{answered, listed, listing}
+use Rattle.listing.specs.Listing.{listed, listing}
 use Rattle.lines.specs.Reading.{live}
-use Rattle.listing.specs.Feed.{feeding, fedOf, starting, ended}
+use Rattle.listing.specs.Feed.{feeding, starting, ended}
 use Rattle.listing.specs.Chain.{Prints}
-use Rattle.listing.specs.Laws.Taking.{takes}
+use Rattle.listing.specs.Laws.Taking.{takes, writes}
 use Rattle.listing.specs.Laws.End.{from-start}
 
 -- Whatever the pieces in which an input arrives, and whatever the rooms that are lent for the text, a run from the start prints the input's listing.
@@ -24,8 +25,12 @@ pub in-pieces : (input text : List ℕ) → length input < 2 ^ 64 → Prints sta
 in-pieces input text h p = from-start p h
 
 -- Every call gets on: while a run is not at its end, a piece that is not empty and a room for the longest line see a byte taken
-pub gets-on : (room : ℕ) (r : Run) (b : ℕ) (bs : List ℕ) → longest ≤ room → live (r .stage) ≡ true → 1 ≤ feeding room r (b ∷ bs) .taken
+pub gets-on : (room : ℕ) (r : Run) (b : ℕ) (bs : List ℕ) → longest ≤ room → live (r .stage) ≡ true → 1 ≤ feeding room r (b ∷ bs) .0 .taken
 gets-on = takes
+
+-- What is counted as written is the length of the text
+pub written-whole : (room : ℕ) (r : Run) (piece : List ℕ) → feeding room r piece .0 .written ≡ length (feeding room r piece .1)
+written-whole = writes
 
 -- 'A malformed line prints BAD and its number, and ends the run': whatever follows it
 pub ends-there : (t : Table) (n : ℕ) (l : List ℕ) (ls : List (List ℕ)) → orders l ≡ false → listed t n (l ∷ ls) ≡ bad n
@@ -34,16 +39,18 @@ ends-there t n l ls h = rw h
 
 -- Every other line prints its own line, whatever follows: line n's listing can be checked with the table so far and the line alone
 pub line-by-line : (t : Table) (n : ℕ) (l : List ℕ) (ls : List (List ℕ)) → orders l ≡ true
-    → listed t n (l ∷ ls) ≡ printed (rowOf n (letter l) (number l) (answered t l)) ++ listed (answered t l .table) (n + 1) ls
+    → listed t n (l ∷ ls)
+    ≡ printed (rowOf n (letter l) (number l) (event t (number l) (eventOf (letter l))))
+    ++ listed (event t (number l) (eventOf (letter l)) .table) (n + 1) ls
 unfolding listed
 line-by-line t n l ls h = rw h
 
 -- Two results that meet a promise are equal, and so are two contents of the buffer
 pub feed-one : (r : Run) (input out : List ℕ) (f g : Fed) (x y : List ℕ)
-    → f ≡ fedOf (feeding (length out) r input)
-    → x ≡ sets out 0 (feeding (length out) r input .text)
-    → g ≡ fedOf (feeding (length out) r input)
-    → y ≡ sets out 0 (feeding (length out) r input .text)
+    → f ≡ feeding (length out) r input .0
+    → x ≡ sets out 0 (feeding (length out) r input .1)
+    → g ≡ feeding (length out) r input .0
+    → y ≡ sets out 0 (feeding (length out) r input .1)
     → (f ≡ g) × (x ≡ y)
 feed-one r input out f g x y p q u v = (p ∙ sym u, q ∙ sym v)
 

@@ -85,8 +85,8 @@ fn row(
 // Takes bytes of a piece of input, and puts what they print at the start of `out`, until the piece is used up, there is no room for another longest line,
 // or the run is at its end.
 pub fn feed(run: Run, input: &[u8], out: &mut [u8]) -> Fed
-    ensures { λ r. ⌜ r ≡ Feed.fedOf (Feed.feeding (length (now (out .entry))) run (now (input .entry))) ⌝ }
-    ensures { λ r. ⌜ now (out .exit) ≡ sets (now (out .entry)) 0 (Feed.feeding (length (now (out .entry))) run (now (input .entry)) .text) ⌝ }
+    ensures { λ r. ⌜ r ≡ Feed.feeding (length (now (out .entry))) run (now (input .entry)) .0 ⌝ }
+    ensures { λ r. ⌜ now (out .exit) ≡ sets (now (out .entry)) 0 (Feed.feeding (length (now (out .entry))) run (now (input .entry)) .1) ⌝ }
     ensures { λ r. ⌜ (r .taken ≤ length (now (input .entry))) × (r .written ≤ length (now (out .entry))) ⌝ }
 {
     let mut table = run.table;

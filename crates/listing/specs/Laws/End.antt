@@ -75,9 +75,9 @@ chain {r} {input} {text} (fed room piece more later e p c) y h =
     let n = ap length e ∙ length-append piece more in
     let k = passes piece room r more y (omega (arith, h, n)) in
     let g = feeding room r piece in
-    let l = length-append (drop (g .taken) piece) more ∙ ap (λ (j : ℕ). j + length more) (length-drop (g .taken) piece) in
+    let l = length-append (drop (g .0 .taken) piece) more ∙ ap (λ (j : ℕ). j + length more) (length-drop (g .0 .taken) piece) in
     let s = chain c (k .ready) (omega (arith, h, n, l, k .count, k .upto)) in
-    p ∙ ap (λ (xs : List ℕ). g .text ++ xs) s ∙ sym (k .text) ∙ ap (rest r) (sym e)
+    p ∙ ap (λ (xs : List ℕ). g .1 ++ xs) s ∙ sym (k .text) ∙ ap (rest r) (sym e)
 
 pub from-start : {input text : List ℕ} → Prints starting input text → length input < 18446744073709551616 → text ≡ listing input
 unfolding starting listing

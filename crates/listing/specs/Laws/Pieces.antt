@@ -2,7 +2,7 @@
 use mathlib.Core.Path.{_≡_, refl, sym, ap, _∙_}
 use mathlib.Core.Bool.{true, false, _&&_, and-eq-true-iff, true≢false}
 use mathlib.Core.List.{List, [], _∷_, _++_, append-nil, append-assoc}
-use Prim.Native.Nat.{ℕ, _+_, _-_, _%_, _≤_, _<_}
+use Prim.Native.Nat.{ℕ, suc, _+_, _-_, _%_, _≤_, _<_}
 use native.Mathlib.Omega.{arith}
 use borrow.Author.Tests.{eq-eqb}
 use lib.Dec.{eqb, leb}
@@ -24,11 +24,12 @@ use Rattle.lines.specs.declared.Stage.the-variants.{Opening, Running, Over}
 use Rattle.lines.specs.declared.Act.{Act}
 use Rattle.lines.specs.declared.Act.the-variants.{Keep, Open, Order, Bad}
 use Rattle.listing.specs.declared.Run.{Run}
+use Rattle.listing.specs.declared.Fed.{Fed}
 use Rattle.lines.specs.Line.{newline, letter, wellFormed, number, opens, lines}
 use Rattle.text.specs.Text.{longest, bad}
 use Rattle.listing.specs.Listing.{listed, opened}
 use Rattle.lines.specs.Reading.{act, live}
-use Rattle.listing.specs.Feed.{acted, actText, Given, nothing, after, feeding}
+use Rattle.listing.specs.Feed.{runAt, acted, feeding}
 use Rattle.lines.specs.Laws.Lines.{restOfLine, first-line}
 use Rattle.lines.specs.Parts.{bytesOf, Fair, fits, whole, Told}
 use Rattle.lines.specs.Laws.Parts.{fair-clear, told}
@@ -63,18 +64,15 @@ sure-order t k e y =
 
 -- a byte and what a run does with it: what is printed now and later is what was to be printed
 record Step (r : Run) (b : ℕ) (bs : List ℕ) (a : Act) : Type 0 where
-  text : rest r (b ∷ bs) ≡ actText r a ++ rest (acted r a) bs
-  fair : Fair (acted r a .part)
-  first : First (acted r a .stage) (acted r a .number)
-  count : acted r a .number ≤ r .number + 1
-  sure : Sure (acted r a .table)
-
-abbrev at : Stage → Table → ℕ → Part → Run
-at s t n p = record { table = t; number = n; part = p; stage = s }
+  text : rest r (b ∷ bs) ≡ acted r a .1 ++ rest (acted r a .0) bs
+  fair : Fair (acted r a .0 .part)
+  first : First (acted r a .0 .stage) (acted r a .0 .number)
+  count : acted r a .0 .number ≤ r .number + 1
+  sure : Sure (acted r a .0 .table)
 
 module _ (t : Table) (n : ℕ) (p : Part) (b : ℕ) (bs : List ℕ) (f : Fair p) (h : n + 1 < 18446744073709551616) (y : Sure t) where
-  after-keep : (s : Stage) (q : Part) → Told s p b (Keep q) → First s n → Step (at s t n p) b bs (Keep q)
-  unfolding acted actText
+  after-keep : (s : Stage) (q : Part) → Told s p b (Keep q) → First s n → Step (runAt t n p s) b bs (Keep q)
+  unfolding acted
   after-keep s q d i =
       record {
         text = ap (λ (xs : List ℕ). restBy s t n (lines xs)) (sym (append-snoc (bytesOf p) b bs) ∙ ap (λ (xs : List ℕ). xs ++ bs) (sym (d .0)));
@@ -88,8 +86,8 @@ module _ (t : Table) (n : ℕ) (p : Part) (b : ℕ) (bs : List ℕ) (f : Fair p)
   malformed : (s : Stage) → Told s p b Bad → fits s (bytesOf p ++ b ∷ restOfLine b bs) ≡ false
   malformed s d = d (restOfLine b bs) (λ e. rw (eq-eqb b newline e))
 
-  after-bad : (s : Stage) → live s ≡ true → Told s p b Bad → First s n → Step (at s t n p) b bs Bad
-  unfolding acted actText opened listed
+  after-bad : (s : Stage) → live s ≡ true → Told s p b Bad → First s n → Step (runAt t n p s) b bs Bad
+  unfolding acted opened listed
   after-bad Opening v d i =
       record {
         text = rw (first-line (bytesOf p) b bs (fair-clear p f), malformed Opening d, i) (sym (append-nil (bad 0)));
@@ -112,8 +110,8 @@ module _ (t : Table) (n : ℕ) (p : Part) (b : ℕ) (bs : List ℕ) (f : Fair p)
   ended-line : b ≡ newline → lines (bytesOf p ++ b ∷ bs) ≡ whole p ∷ lines bs
   ended-line e = rw e (first-line (bytesOf p) newline bs (fair-clear p f))
 
-  after-open : (m : ℕ) → Told Opening p b (Open m) → Step (at Opening t n p) b bs (Open m)
-  unfolding acted actText opened opens fresh
+  after-open : (m : ℕ) → Told Opening p b (Open m) → Step (runAt t n p Opening) b bs (Open m)
+  unfolding acted opened opens fresh
   after-open m d =
       let g = and-eq-true-iff (wellFormed (whole p) && eqb (letter (whole p)) 68) (sizeGood (number (whole p))) .0 (d .1) .1 in
       record {
@@ -124,8 +122,8 @@ module _ (t : Table) (n : ℕ) (p : Part) (b : ℕ) (bs : List ℕ) (f : Fair p)
         sure = sure-fresh m;
       }
 
-  after-order : (l e m : ℕ) → Told Running p b (Order l e m) → Step (at Running t n p) b bs (Order l e m)
-  unfolding acted actText listed
+  after-order : (l e m : ℕ) → Told Running p b (Order l e m) → Step (runAt t n p Running) b bs (Order l e m)
+  unfolding acted listed
   after-order l e m d =
       let k : (n + 1) % 18446744073709551616 ≡ n + 1 = omega (arith, h) in
       record {
@@ -136,7 +134,7 @@ module _ (t : Table) (n : ℕ) (p : Part) (b : ℕ) (bs : List ℕ) (f : Fair p)
         sure = sure-order t m e y;
       }
 
-  after-act : (s : Stage) (a : Act) → live s ≡ true → Told s p b a → First s n → Step (at s t n p) b bs a
+  after-act : (s : Stage) (a : Act) → live s ≡ true → Told s p b a → First s n → Step (runAt t n p s) b bs a
   after-act s (Keep q) v d i = after-keep s q d i
   after-act s Bad v d i = after-bad s v d i
   after-act Opening (Open m) v d i = after-open m d
@@ -153,32 +151,33 @@ pub record Ready (r : Run) : Type 0 where
   pub sure : Sure (r .table)
 
 -- a piece of input, with more to come: what it prints and what is printed later is what was to be printed
-pub record Passed (r : Run) (piece more : List ℕ) (g : Given) : Type 0 where
-  pub text : rest r (piece ++ more) ≡ g .text ++ rest (g .run) (drop (g .taken) piece ++ more)
-  pub ready : Ready (g .run)
-  pub count : g .run .number ≤ r .number + g .taken
-  pub upto : g .taken ≤ length piece
+pub record Passed (r : Run) (piece more : List ℕ) (g : Fed × List ℕ) : Type 0 where
+  pub text : rest r (piece ++ more) ≡ g .1 ++ rest (g .0 .run) (drop (g .0 .taken) piece ++ more)
+  pub ready : Ready (g .0 .run)
+  pub count : g .0 .run .number ≤ r .number + g .0 .taken
+  pub upto : g .0 .taken ≤ length piece
 
 pub passes : (piece : List ℕ) (room : ℕ) (r : Run) (more : List ℕ) → Ready r → r .number + length piece < 18446744073709551616
     → Passed r piece more (feeding room r piece)
 unfolding feeding
 passes [] room r more y h = record { text = refl; ready = y; count = omega arith; upto = omega arith }
 passes (b ∷ bs) room r more y h =
-    let a = act (r .stage) (r .part) b in
+    let a = acted r (act (r .stage) (r .part) b) in
+    let g = feeding (room - length (a .1)) (a .0) bs in
     split (Passed r (b ∷ bs) more) (leb longest room && live (r .stage))
-    (after (actText r a) (feeding (room - length (actText r a)) (acted r a) bs))
-    (nothing r)
+    (record { run = g .0 .run; taken = suc (g .0 .taken); written = length (a .1) + g .0 .written }, a .1 ++ g .1)
+    (record { run = r; taken = 0; written = 0 }, [])
     (λ e.
     let v = and-eq-true-iff (leb longest room) (live (r .stage)) .0 e .1 in
-    let s = after-act (r .table) (r .number) (r .part) b (bs ++ more) (y .fair) (omega (arith, h)) (y .sure) (r .stage) a v
+    let s = after-act (r .table) (r .number) (r .part) b (bs ++ more) (y .fair) (omega (arith, h)) (y .sure) (r .stage) (act (r .stage) (r .part) b) v
     (told (r .stage) (r .part) b (y .fair))
     (y .first) in
-    let k = passes bs (room - length (actText r a)) (acted r a) more (record { fair = s .fair; first = s .first; sure = s .sure }) (omega (arith, h, s .count)) in
+    let k = passes bs (room - length (a .1)) (a .0) more (record { fair = s .fair; first = s .first; sure = s .sure }) (omega (arith, h, s .count)) in
     record {
       text =
           s .text
-          ∙ ap (λ (xs : List ℕ). actText r a ++ xs) (k .text)
-          ∙ sym (append-assoc (actText r a) _ _);
+          ∙ ap (λ (xs : List ℕ). a .1 ++ xs) (k .text)
+          ∙ sym (append-assoc (a .1) _ _);
       ready = k .ready;
       count = omega (arith, s .count, k .count);
       upto = omega (arith, k .upto);

@@ -1,8 +1,8 @@
 -- A run's loop over a piece of input: what is still to do gives what the definitions say of the whole piece.
 use mathlib.Core.Path.{_≡_, refl, sym, ap, _∙_}
 use mathlib.Core.Bool.{Bool, true, false, _&&_, and-eq-true-iff}
-use mathlib.Core.List.{List, [], _∷_}
-use Prim.Native.Nat.{ℕ, _+_, _-_, _≤_, _<_}
+use mathlib.Core.List.{List, [], _∷_, _++_}
+use Prim.Native.Nat.{ℕ, suc, _+_, _-_, _≤_, _<_}
 use native.Mathlib.Nat.{sub-zero, add-zero}
 use native.Mathlib.Numerals.{add-one}
 use native.Mathlib.Omega.{arith}
@@ -10,11 +10,12 @@ use borrow.Author.Tests.{ltb-true, ltb-false, leb-true, le-leb}
 use lib.Dec.{ltb, leb}
 use lib.ListN.{length, getD, drop, length-append, drop-of-length-le}
 use lib.Seq.{sets, drop-cons, length-sets}
+use Rattle.model.specs.Laws.Tests.{split}
 use Rattle.listing.specs.declared.Run.{Run}
 use Rattle.lines.specs.declared.Act.{Act}
 use Rattle.listing.specs.declared.Fed.{Fed}
 use Rattle.lines.specs.Reading.{act, live}
-use Rattle.listing.specs.Feed.{acted, actText, nothing, after, feeding, fedOf}
+use Rattle.listing.specs.Feed.{acted, feeding}
 use Rattle.text.specs.Text.{longest}
 use Rattle.text.specs.Laws.Put.{Put, sets-append}
 
@@ -31,23 +32,21 @@ going i n l m v h =
 
 -- one byte more
 next-byte : (room : ℕ) (r : Run) (input : List ℕ) (i : ℕ) → i < length input → longest ≤ room → live (r .stage) ≡ true
-    → feeding room r (drop i input)
-    ≡ after (actText r (act (r .stage) (r .part) (getD input i 0)))
-    (feeding
-    (room - length (actText r (act (r .stage) (r .part) (getD input i 0))))
-    (acted r (act (r .stage) (r .part) (getD input i 0)))
-    (drop (i + 1) input))
+    → let a = acted r (act (r .stage) (r .part) (getD input i 0)) in
+    let g = feeding (room - length (a .1)) (a .0) (drop (i + 1) input) in
+    feeding room r (drop i input)
+    ≡ (record { run = g .0 .run; taken = suc (g .0 .taken); written = length (a .1) + g .0 .written }, a .1 ++ g .1)
 unfolding feeding
 next-byte room r input i h l v = rw (drop-cons input i 0 h, le-leb longest room l, v, add-one i)
 
 -- no byte more
 no-byte : (room : ℕ) (r : Run) (input : List ℕ) (i : ℕ) → (ltb i (length input) && leb longest room && live (r .stage)) ≡ false
-    → feeding room r (drop i input) ≡ nothing r
+    → feeding room r (drop i input) ≡ (record { run = r; taken = 0; written = 0 }, [])
 unfolding feeding
 no-byte room r input i h = go (ltb i (length input)) refl h
   where
     go : (a : Bool) → ltb i (length input) ≡ a → (a && leb longest room && live (r .stage)) ≡ false
-        → feeding room r (drop i input) ≡ nothing r
+        → feeding room r (drop i input) ≡ (record { run = r; taken = 0; written = 0 }, [])
     go true e h = rw (drop-cons input i 0 (ltb-true i (length input) e), h)
     go false e h = rw (drop-of-length-le input (ltb-false i (length input) e))
 
@@ -56,10 +55,10 @@ pub record Taking (input out₀ : List ℕ) (r₀ : Run) (out : List ℕ) (r : R
   pub upto : taken ≤ length input
   pub inside : written ≤ length out₀
   pub long : length out ≡ length out₀
-  pub run : feeding (length out₀ - written) r (drop taken input) .run ≡ feeding (length out₀) r₀ input .run
-  pub count : taken + feeding (length out₀ - written) r (drop taken input) .taken ≡ feeding (length out₀) r₀ input .taken
-  pub size : written + length (feeding (length out₀ - written) r (drop taken input) .text) ≡ length (feeding (length out₀) r₀ input .text)
-  pub bytes : sets out written (feeding (length out₀ - written) r (drop taken input) .text) ≡ sets out₀ 0 (feeding (length out₀) r₀ input .text)
+  pub run : feeding (length out₀ - written) r (drop taken input) .0 .run ≡ feeding (length out₀) r₀ input .0 .run
+  pub count : taken + feeding (length out₀ - written) r (drop taken input) .0 .taken ≡ feeding (length out₀) r₀ input .0 .taken
+  pub size : written + feeding (length out₀ - written) r (drop taken input) .0 .written ≡ feeding (length out₀) r₀ input .0 .written
+  pub bytes : sets out written (feeding (length out₀ - written) r (drop taken input) .1) ≡ sets out₀ 0 (feeding (length out₀) r₀ input .1)
 
 module _ (input out₀ : List ℕ) (r₀ : Run) where
   pub begins : Taking input out₀ r₀ out₀ r₀ 0 0
@@ -79,38 +78,40 @@ module _ (input out₀ : List ℕ) (r₀ : Run) where
       → longest ≤ length out - written
       → live (r .stage) ≡ true
       → a ≡ act (r .stage) (r .part) (getD input taken 0)
-      → s ≡ acted r a
-      → Put out written (actText r a) longest w exit
+      → s ≡ acted r a .0
+      → Put out written (acted r a .1) longest w exit
       → Taking input out₀ r₀ out r taken written
       → Taking input out₀ r₀ exit s (taken + 1) w
   turns out exit r s taken written w a h l v e f p t =
+      let x = acted r a .1 in
       let g = feeding (length out₀ - w) s (drop (taken + 1) input) in
-      let d : length out₀ - written - length (actText r a) ≡ length out₀ - w = omega (arith, p .place) in
-      let n : feeding (length out₀ - written) r (drop taken input) ≡ after (actText r a) g =
+      let d : length out₀ - written - length x ≡ length out₀ - w = omega (arith, p .place) in
+      let n : feeding (length out₀ - written) r (drop taken input)
+      ≡ (record { run = g .0 .run; taken = suc (g .0 .taken); written = length x + g .0 .written }, x ++ g .1) =
       rw (f, ← d, e) (next-byte (length out₀ - written) r input taken h (rw (t .long) at l) v) in
       record {
         upto = omega (arith, h);
         inside = omega (arith, l, p .place, p .short, t .inside, t .long);
-        long = ap length (p .bytes) ∙ length-sets out written (actText r a) ∙ t .long;
+        long = ap length (p .bytes) ∙ length-sets out written x ∙ t .long;
         run = rw n at (t .run);
         count = omega (arith, rw n at (t .count));
-        size = omega (arith, rw n at (t .size), p .place, length-append (actText r a) (g .text));
+        size = omega (arith, rw n at (t .size), p .place);
         bytes =
-            ap (λ (x : List ℕ). sets x w (g .text)) (p .bytes)
-            ∙ ap (λ (k : ℕ). sets (sets out written (actText r a)) k (g .text)) (p .place)
-            ∙ sets-append (actText r a) (g .text) out written
+            ap (λ (y : List ℕ). sets y w (g .1)) (p .bytes)
+            ∙ ap (λ (k : ℕ). sets (sets out written x) k (g .1)) (p .place)
+            ∙ sets-append x (g .1) out written
             ∙ (rw n at (t .bytes));
       }
 
   pub ends : (out : List ℕ) (r : Run) (taken written : ℕ)
       → (ltb taken (length input) && leb longest (length out - written) && live (r .stage)) ≡ false
       → Taking input out₀ r₀ out r taken written
-      → (record { run = r; taken = taken; written = written } ≡ fedOf (feeding (length out₀) r₀ input))
-      × (out ≡ sets out₀ 0 (feeding (length out₀) r₀ input .text))
+      → (record { run = r; taken = taken; written = written } ≡ feeding (length out₀) r₀ input .0)
+      × (out ≡ sets out₀ 0 (feeding (length out₀) r₀ input .1))
   ends out r taken written h t =
       let n = no-byte (length out₀ - written) r input taken (rw (t .long) at h) in
-      let c : taken ≡ feeding (length out₀) r₀ input .taken = omega (arith, rw n at (t .count)) in
-      let s : written ≡ length (feeding (length out₀) r₀ input .text) = omega (arith, rw n at (t .size)) in
+      let c : taken ≡ feeding (length out₀) r₀ input .0 .taken = omega (arith, rw n at (t .count)) in
+      let s : written ≡ feeding (length out₀) r₀ input .0 .written = omega (arith, rw n at (t .size)) in
       (fed (rw n at (t .run)) c s, rw n at (t .bytes))
     where
       fed : {a b : Run} {m n u v : ℕ} → a ≡ b → m ≡ n → u ≡ v
@@ -118,6 +119,19 @@ module _ (input out₀ : List ℕ) (r₀ : Run) where
       fed p q e = rw (p, q, e)
 
 -- a byte is taken where there is one, room, and a run that is not at its end
-pub takes : (room : ℕ) (r : Run) (b : ℕ) (bs : List ℕ) → longest ≤ room → live (r .stage) ≡ true → 1 ≤ feeding room r (b ∷ bs) .taken
+pub takes : (room : ℕ) (r : Run) (b : ℕ) (bs : List ℕ) → longest ≤ room → live (r .stage) ≡ true → 1 ≤ feeding room r (b ∷ bs) .0 .taken
 unfolding feeding
 takes room r b bs l v = rw (le-leb longest room l, v) (omega arith)
+
+-- as many bytes are written as the text has
+pub writes : (room : ℕ) (r : Run) (piece : List ℕ) → feeding room r piece .0 .written ≡ length (feeding room r piece .1)
+unfolding feeding
+writes room r [] = refl
+writes room r (b ∷ bs) =
+    let a = acted r (act (r .stage) (r .part) b) in
+    let g = feeding (room - length (a .1)) (a .0) bs in
+    split (λ (f : Fed × List ℕ). f .0 .written ≡ length (f .1)) (leb longest room && live (r .stage))
+    (record { run = g .0 .run; taken = suc (g .0 .taken); written = length (a .1) + g .0 .written }, a .1 ++ g .1)
+    (record { run = r; taken = 0; written = 0 }, [])
+    (λ e. ap (λ (k : ℕ). length (a .1) + k) (writes (room - length (a .1)) (a .0) bs) ∙ sym (length-append (a .1) (g .1)))
+    (λ e. refl)

@@ -11,7 +11,7 @@ use Rattle.listing.specs.declared.Run.{Run}
 use Rattle.lines.specs.declared.Act.{Act}
 use Rattle.lines.specs.declared.Act.the-variants.{Keep, Open, Order, Bad}
 use Rattle.lines.specs.Reading.{live}
-use Rattle.listing.specs.Feed.{acted, actText}
+use Rattle.listing.specs.Feed.{acted}
 use Rattle.text.specs.Text.{longest}
 use Rattle.text.specs.Laws.Put.{Put, limit}
 use Rattle.text.specs.Laws.Room.{whole-line}
@@ -50,8 +50,8 @@ run-at c =
 -- a turn that does what the definitions say
 turned : (c : tie.After-act Inv-loop μ-loop) (exit : List ℕ) (s : Run) (w : ℕ) (a : Act)
     → c .act .result ≡ a
-    → s ≡ acted (run-at c) a
-    → Put (c .before .before .before .before .loop .out) (c .before .before .before .before .loop .written) (actText (run-at c) a) longest w exit
+    → s ≡ acted (run-at c) a .0
+    → Put (c .before .before .before .before .loop .out) (c .before .before .before .before .loop .written) (acted (run-at c) a .1) longest w exit
     → Taking
     (c .before .before .before .before .before .before .before .before .args .input .now)
     (c .before .before .before .before .before .before .before .before .args .out .now)
@@ -80,21 +80,21 @@ loop-less : tie.Need-loop-less Inv-loop μ-loop
 loop-less c = omega (arith, tests (c .before .before .before .before .before) .0)
 
 loop-again : tie.Need-loop-again Inv-loop μ-loop
-unfolding acted actText
+unfolding acted
 loop-again c = turned (c .before .before .before) _ _ _ (Keep _) (c .before .act2 .given .1) refl put-nothing
 
 loop-less-2 : tie.Need-loop-less-2 Inv-loop μ-loop
 loop-less-2 c = omega (arith, tests (c .before .before .before .before .before .before .before) .0)
 
 loop-again-2 : tie.Need-loop-again-2 Inv-loop μ-loop
-unfolding acted actText
+unfolding acted
 loop-again-2 c = turned (c .before .before .before .before .before) _ _ _ (Open _) (c .before .before .before .act3 .given .1) (rw (c .before .fresh .ensures)) put-nothing
 
 loop-less-3 : tie.Need-loop-less-3 Inv-loop μ-loop
 loop-less-3 c = omega (arith, tests (c .before .before .before .before .before .before .before .before .before .before .before .before .before .before) .0)
 
 loop-again-3 : tie.Need-loop-again-3 Inv-loop μ-loop
-unfolding acted actText
+unfolding acted
 loop-again-3 c =
     turned (c .before .before .before .before .before .before .before .before .before .before .before .before) _ _ _ (Order _ _ _) (c .before .before .before .before .before .before .before .before .before .before .act4 .given .1)
     (rw (c .before .before .before .before .before .before .before .before .paid .ensures, c .wrapping-add-u64 .ensures))
@@ -104,7 +104,7 @@ loop-less-4 : tie.Need-loop-less-4 Inv-loop μ-loop
 loop-less-4 c = omega (arith, tests (c .before .before .before .before .before .before .before .before) .0)
 
 loop-again-4 : tie.Need-loop-again-4 Inv-loop μ-loop
-unfolding acted actText
+unfolding acted
 loop-again-4 c = turned (c .before .before .before .before .before .before) _ _ _ Bad (c .before .before .before .before .enum-told .given .1) refl (whole-line (room-left (c .before .before .before .before .before .before .before .before)) (c .before .before .put-bad .ensures))
 
 same-length : tie.Need-same-length Inv-loop μ-loop
