@@ -3,8 +3,10 @@ use crate::Act;
 use crate::Part;
 use crate::Stage;
 use rules::good;
+ghost use mathlib.Core.Bool.{_&&_};
 ghost use mathlib.Core.Path.{_≡_};
 ghost use Prim.Native.Nat.{_-_};
+ghost use lib.Dec.{ltb};
 ghost use Rattle.lines.specs.Line as Line;
 ghost use Rattle.lines.specs.Reading as Reading;
 
@@ -27,6 +29,13 @@ fn value(b: u8) -> u64
     ensures { λ r. ⌜ r ≡ b - 48 ⌝ }
 {
     if ZERO <= b { (b - ZERO) as u64 } else { 0 }
+}
+
+// A number goes on with a digit where it is neither 0 nor of three digits.
+fn goes_on(n: u64, b: u8) -> bool
+    ensures { λ r. ⌜ r ≡ (Line.digit b && ltb 0 n && ltb n 100) ⌝ }
+{
+    is_digit(b) & (0 < n) & (n < 100)
 }
 
 // The event that a letter stands for, or 0.
@@ -106,7 +115,7 @@ pub fn act(stage: Stage, part: Part, b: u8) -> Act
             if b == NEWLINE {
                 return line_act(stage, l, n);
             }
-            if is_digit(b) & (0 < n) & (n < 100) {
+            if goes_on(n, b) {
                 return Act::Keep(Part::Number(l, 10 * n + value(b)));
             }
             Act::Bad

@@ -25,7 +25,8 @@ pub in-pieces : (input text : List ℕ) → length input < 2 ^ 64 → Prints sta
 in-pieces input text h p = from-start p h
 
 -- Every call gets on: while a run is not at its end, a piece that is not empty and a room for the longest line see a byte taken
-pub gets-on : (room : ℕ) (r : Run) (b : ℕ) (bs : List ℕ) → longest ≤ room → live (r .stage) ≡ true → 1 ≤ feeding room r (b ∷ bs) .0 .taken
+pub gets-on : (room : ℕ) (r : Run) (b : ℕ) (bs : List ℕ) → longest ≤ room → live (r .stage) ≡ true
+    → 1 ≤ feeding room r (b ∷ bs) .0 .taken
 gets-on = takes
 
 -- What is counted as written is the length of the text

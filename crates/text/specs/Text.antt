@@ -37,8 +37,8 @@ printed r =
 -- what line n, with the letter l and the port k, prints of what its event answered
 abbrev pub rowOf : ℕ → ℕ → ℕ → Outcome → Row
 rowOf n l k o =
-    let a = numberOf (o .answer) in let p = portAt (o .table) k .point in let s = o .table .shared in
-    record { number = n; letter = l; port = k; answer = a; point = p; shared = s; cached = o .cached; distributed = o .distributed }
+    let a = numberOf (o .answer) in let p = portAt (o .table) k .point in let s = o .table .shared in let c = o .cached in
+    record { number = n; letter = l; port = k; answer = a; point = p; shared = s; cached = c; distributed = o .distributed }
 
 -- `BAD` and the number of a malformed line
 unfoldable pub bad : ℕ → List ℕ

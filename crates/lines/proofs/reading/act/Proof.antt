@@ -1,7 +1,9 @@
+use mathlib.Core.Path.{sym, _∙_}
 use Prim.Native.Nat.{_<_}
 use native.Mathlib.Omega.{arith}
 use borrow.Author.Tests.{ne-eqb}
 use borrow.Author.Needs.{needs}
+use Rattle.lines.specs.Line.{digit}
 use Rattle.lines.specs.Laws.Parts.{going-on}
 use Rattle.lines.proofs.reading.act.Statement.{statement}
 use Rattle.lines.proofs.reading.act.Tie as tie
@@ -20,16 +22,16 @@ returns-4 c = rw (c .before .before .before .part3 .given .1, c .before .if4 .ta
 
 -- a number that goes on
 small : (c : tie.Then5) → c .before .before .before .before .part3 .given .0 .1 .0 < 100
-small c = going-on (c .before .is-digit2 .result) _ (c .if5 .taken) .2
+small c = going-on (digit (c .before .before .before .before .before .before .args .b)) _ (sym (c .before .goes-on .ensures) ∙ c .if5 .taken) .2
 
-mul-t21 : tie.Need-mul-t21
-mul-t21 c = omega (arith, small c)
+mul-t18 : tie.Need-mul-t18
+mul-t18 c = omega (arith, small c)
 
-add-t23 : tie.Need-add-t23
-add-t23 c = omega (arith, small (c .before), c .value2 .ensures, c .before .before .before .before .before .before .before .fits .b .fits)
+add-t20 : tie.Need-add-t20
+add-t20 c = omega (arith, small (c .before), c .value2 .ensures, c .before .before .before .before .before .before .before .fits .b .fits)
 
 returns-5 : tie.Need-returns-5
-returns-5 c = rw (c .before .before .before .before .before .part3 .given .1, ne-eqb _ _ (c .before .before .before .if4 .left), ← (c .before .before .is-digit2 .ensures), c .before .if5 .taken, c .value2 .ensures)
+returns-5 c = rw (c .before .before .before .before .before .part3 .given .1, ne-eqb _ _ (c .before .before .before .if4 .left), ← (c .before .before .goes-on .ensures), c .before .if5 .taken, c .value2 .ensures)
 
 returns-6 : tie.Need-returns-6
 returns-6 c = rw (c .before .enum-told .given .1, ne-eqb _ _ (c .if1 .left))
@@ -41,7 +43,7 @@ returns-8 : tie.Need-returns-8
 returns-8 c = rw (c .before .before .before .part2 .given .1, ← (c .before .is-digit .ensures), c .if3 .left)
 
 returns-9 : tie.Need-returns-9
-returns-9 c = rw (c .before .before .before .before .part3 .given .1, ne-eqb _ _ (c .before .before .if4 .left), ← (c .before .is-digit2 .ensures), c .if5 .left)
+returns-9 c = rw (c .before .before .before .before .part3 .given .1, ne-eqb _ _ (c .before .before .if4 .left), ← (c .before .goes-on .ensures), c .if5 .left)
 
 pub act-spec : {M : Type 1} → statement M
 act-spec =
@@ -59,9 +61,9 @@ act-spec =
     (λ c κs. search needs)
     returns-4
     (λ c κs. search needs)
-    mul-t21
+    mul-t18
     (λ c κs. search needs)
-    add-t23
+    add-t20
     returns-5
     returns-6
     returns-7
