@@ -1,5 +1,5 @@
--- What a part of a line stands for, and what a byte makes of it: more bytes of the line, a line that opens a run or orders an event, or one that is malformed
--- whatever follows.
+-- What a part of a line stands for, and what is known where a run does something with a byte: more bytes of the line, a line that opens a table or orders an
+-- event, or one that does neither, whatever follows.
 use mathlib.Core.Path.{_≡_}
 use mathlib.Core.Bool.{Bool, true, false, cond}
 use mathlib.Core.List.{List, [], _∷_, _++_}
@@ -44,7 +44,7 @@ fits Over line = false
 abbrev pub whole : Part → List ℕ
 whole p = bytesOf p ++ newline ∷ []
 
--- what it tells that a run does this with a byte
+-- what is known of a part of a line and a byte where a run does this with them
 abbrev pub Told : Stage → Part → ℕ → Act → Type 0
 Told s p b (Keep q) = (bytesOf q ≡ bytesOf p ++ b ∷ []) × Fair q
 Told Opening p b (Open d) = (b ≡ newline) × (opens (whole p) ≡ true) × (number (whole p) ≡ d)

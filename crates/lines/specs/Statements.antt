@@ -9,8 +9,8 @@ use Rattle.lines.specs.Reading.{act, live, cutOff}
 use Rattle.lines.specs.Parts.{Fair, Told}
 use Rattle.lines.specs.Laws.Parts.{told}
 
--- What a run does with a byte is what the line's definition says: it keeps more bytes of the line; it opens a table or orders an event where the line, now
--- whole, says so; or it ends, and no line that goes on in this way does so
+-- What a run does with a byte is what the line's definition says: it keeps the bytes so far; it opens a table or orders an event where the line, now whole,
+-- does; or it ends, where no line that begins with these bytes does either
 pub reading-right : (s : Stage) (p : Part) (b : ℕ) → Fair p → Told s p b (act s p b)
 reading-right = told
 

@@ -116,7 +116,8 @@ pub fn act(stage: Stage, part: Part, b: u8) -> Act
                 return line_act(stage, l, n);
             }
             if goes_on(n, b) {
-                return Act::Keep(Part::Number(l, 10 * n + value(b)));
+                let v = value(b);
+                return Act::Keep(Part::Number(l, 10 * n + v));
             }
             Act::Bad
         }

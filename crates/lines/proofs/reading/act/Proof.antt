@@ -20,15 +20,17 @@ returns-3 c = rw (c .before .before .before .before .part2 .given .1, ← (c .be
 returns-4 : tie.Need-returns-4
 returns-4 c = rw (c .before .before .before .part3 .given .1, c .before .if4 .taken) (c .line-act .ensures)
 
--- a number that goes on
-small : (c : tie.Then5) → c .before .before .before .before .part3 .given .0 .1 .0 < 100
-small c = going-on (digit (c .before .before .before .before .before .before .args .b)) _ (sym (c .before .goes-on .ensures) ∙ c .if5 .taken) .2
+-- a number that goes on is below 100, and a digit's value below 256
+small : (c : tie.After-value2) → (c .before .before .before .before .before .part3 .given .0 .1 .0 < 100) × (c .value2 .result < 256)
+small c =
+    let b = c .before .before .before .before .before .before .before in
+    (going-on (digit (b .args .b)) _ (sym (c .before .before .goes-on .ensures) ∙ c .before .if5 .taken) .2, omega (arith, c .value2 .ensures, b .fits .b .fits))
 
-mul-t18 : tie.Need-mul-t18
-mul-t18 c = omega (arith, small c)
+mul-t19 : tie.Need-mul-t19
+mul-t19 c = omega (arith, small c .0, small c .1)
 
 add-t20 : tie.Need-add-t20
-add-t20 c = omega (arith, small (c .before), c .value2 .ensures, c .before .before .before .before .before .before .before .fits .b .fits)
+add-t20 c = omega (arith, small c .0, small c .1)
 
 returns-5 : tie.Need-returns-5
 returns-5 c = rw (c .before .before .before .before .before .part3 .given .1, ne-eqb _ _ (c .before .before .before .if4 .left), ← (c .before .before .goes-on .ensures), c .before .if5 .taken, c .value2 .ensures)
@@ -61,8 +63,8 @@ act-spec =
     (λ c κs. search needs)
     returns-4
     (λ c κs. search needs)
-    mul-t18
     (λ c κs. search needs)
+    mul-t19
     add-t20
     returns-5
     returns-6
