@@ -57,18 +57,7 @@ fn row(
     cached: u64,
     distributed: u64,
 ) -> Row
-    ensures { λ r. ⌜
-        r ≡ record {
-          number = number;
-          letter = letter;
-          port = port;
-          answer = numberOf answer;
-          point = point;
-          shared = shared;
-          cached = cached;
-          distributed = distributed;
-        }
-        ⌝ }
+    ensures { λ r. ⌜ r ≡ Text.row number letter port (numberOf answer) point shared cached distributed ⌝ }
 {
     Row {
         number,

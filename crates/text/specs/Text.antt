@@ -4,6 +4,7 @@ use mathlib.Core.Bool.{cond}
 use mathlib.Core.List.{List, [], _∷_, _++_}
 use Prim.Native.Nat.{ℕ, zero, suc, _+_, _/_, _%_}
 use lib.Dec.{eqb, ltb, leb}
+use Rattle.model.specs.declared.Shared.{Shared}
 use Rattle.model.specs.declared.Outcome.{Outcome}
 use Rattle.model.specs.Table.{portAt}
 use Rattle.model.specs.Event.{numberOf}
@@ -34,11 +35,12 @@ printed r =
     ++ (cell (r .shared .word .taken) 46 ++ cell (r .shared .word .owner) 46 ++ cell (r .shared .word .spin) space)
     ++ (cell (r .cached) space ++ cell (r .distributed) newline)
 
--- what line n, with the letter l and the port k, prints of what its event answered
+-- what is printed for an event: line number, letter, port, answer, point, what all ports share, both costs; and from what an event answered
+abbrev pub row : ℕ → ℕ → ℕ → ℕ → ℕ → Shared → ℕ → ℕ → Row
+row n l k a p s c d = record { number = n; letter = l; port = k; answer = a; point = p; shared = s; cached = c; distributed = d }
+
 abbrev pub rowOf : ℕ → ℕ → ℕ → Outcome → Row
-rowOf n l k o =
-    let a = numberOf (o .answer) in let p = portAt (o .table) k .point in let s = o .table .shared in let c = o .cached in
-    record { number = n; letter = l; port = k; answer = a; point = p; shared = s; cached = c; distributed = o .distributed }
+rowOf n l k o = row n l k (numberOf (o .answer)) (portAt (o .table) k .point) (o .table .shared) (o .cached) (o .distributed)
 
 -- `BAD` and the number of a malformed line
 unfoldable pub bad : ℕ → List ℕ
