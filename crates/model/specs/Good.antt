@@ -71,16 +71,17 @@ portEmpty p c =
     && eqb (p .work .candidate) 0 && eqb (p .work .candidatespin) 0
     && eqb (c .status) 0 && eqb (c .go) 0 && eqb (c .spin) 0
 
--- the rules for a port below D
-unfoldable pub portGood : Table → ℕ → Bool
-portGood t k =
-    fieldsGood (t .shared .active) k (portAt t k)
-    && workGood (t .shared .d) (portAt t k .point) (portAt t k .made)
-    (portAt t (portAt t k .work .seenowner) .made) (portAt t (portAt t k .work .candidate) .made) (portAt t k .work)
-    && copiesGood (t .shared .d) (portAt t k .made) (copiesAt t k)
+-- the rules for place k, with made of its port's seen owner and of its candidate; all of them in a table
+unfoldable pub placeRules : Shared → ℕ → Port → Copies → ℕ → ℕ → Bool
+placeRules s k p c seenmade candidatemade =
+    cond (ltb k (s .d))
+    (fieldsGood (s .active) k p && workGood (s .d) (p .point) (p .made) seenmade candidatemade (p .work) && copiesGood (s .d) (p .made) c)
+    (portEmpty p c)
 
 unfoldable pub placeGood : Table → ℕ → Bool
-placeGood t k = cond (ltb k (t .shared .d)) (portGood t k) (portEmpty (portAt t k) (copiesAt t k))
+placeGood t k =
+    placeRules (t .shared) k (portAt t k) (copiesAt t k)
+    (portAt t (portAt t k .work .seenowner) .made) (portAt t (portAt t k .work .candidate) .made)
 
 unfoldable pub good : Table → Bool
 good t =

@@ -1,4 +1,5 @@
 -- Runs: orders, each a port and an event of any numbers, carried out one after the other; what the statements of demand 3 count along a run.
+use mathlib.Core.Path.{_≡_}
 use mathlib.Core.Bool.{Bool, true, cond, not, _&&_, _||_}
 use mathlib.Core.List.{List, [], _∷_}
 use Prim.Native.Nat.{ℕ, zero, suc, _+_, _*_, _/_, min}
@@ -9,7 +10,7 @@ use Rattle.model.specs.declared.Table.{Table}
 use Rattle.model.specs.declared.Outcome.{Outcome}
 use Rattle.model.specs.declared.Made.{Made}
 use Rattle.model.specs.declared.Answer.the-variants.{Done, BadTable}
-use Rattle.model.specs.Table.{word, portAt}
+use Rattle.model.specs.Table.{CS, word, portAt, freshTable}
 use Rattle.model.specs.Mask.{stands}
 use Rattle.model.specs.Points.{oneOf}
 use Rattle.model.specs.Good.{good}
@@ -34,6 +35,13 @@ after t o = answered t o .table
 unfoldable pub ran : Table → List Order → Table
 ran t [] = t
 ran t (o ∷ os) = ran (after t o) os
+
+-- the table reached from the fresh table of d ports by a list of orders; a port has the critical status
+abbrev pub reached : ℕ → List Order → Table
+reached d os = ran (freshTable d) os
+
+abbrev pub Critical : Table → ℕ → Type 0
+Critical t k = portAt t k .status ≡ CS
 
 -- the orders that n pairs of numbers, port and event, stand for
 unfoldable pub orders : ℕ → List ℕ → List Order

@@ -8,12 +8,12 @@ use Prim.Native.Nat.{ℕ, _-_, _*_, _≤_, _<_, _^_}
 use Rattle.model.specs.declared.Table.{Table}
 use Rattle.model.specs.declared.Outcome.{Outcome}
 use Rattle.model.specs.declared.Made.{Made}
-use Rattle.model.specs.Table.{room, Sized, CS, portAt, freshTable}
+use Rattle.model.specs.Table.{room, Sized, portAt, freshTable}
 use Rattle.model.specs.Mask.{stands, joined, alone, added}
 use Rattle.model.specs.Ring.{next, distance}
 use Rattle.model.specs.Good.{good}
 use Rattle.model.specs.Event.{numberOf, enter, stepping, crash, free, event, fresh}
-use Rattle.model.specs.Run.{Order, order, after, ran, run, runAnswers, done, stepsAt, passedOver, passageCost, stepless}
+use Rattle.model.specs.Run.{Order, order, after, ran, reached, Critical, run, runAnswers, done, stepsAt, passedOver, passageCost, stepless}
 use Rattle.model.specs.Paid.{paidEvent}
 use Rattle.model.specs.Laws.Mask.{set-own, set-other, cleared-own, cleared-other, joined-own, joined-other, alone-own, alone-other}
 use Rattle.model.specs.Laws.Ring.{distance-own, distance-le, next-stands, next-nearest}
@@ -92,14 +92,7 @@ holder-joined m k = (joined-own m k, λ j n. joined-other m n)
 pub sole-holder : (k : ℕ) → (stands (alone k) k ≡ true) × ((j : ℕ) → j ≢ k → stands (alone k) j ≡ false)
 sole-holder k = (alone-own k, λ j n. alone-other n)
 
--- From here on: the table reached from the fresh table of d ports by any orders, refused ones included
-abbrev pub reached : ℕ → List Order → Table
-reached d os = ran (freshTable d) os
-
--- a port has the critical status
-abbrev pub Critical : Table → ℕ → Type 0
-Critical t k = portAt t k .status ≡ CS
-
+-- From here on: for D from 1 to the room, over any orders from a fresh table, refused ones included
 module _ (d : ℕ) (some : 1 ≤ d) (fits : d ≤ room) where
   -- every table so reached is good, and has d ports
   pub always-good : (os : List Order) → good (reached d os) ≡ true

@@ -1,27 +1,16 @@
 -- The check of a table as the code makes it: place by place, from what a place holds and two numbers.
 use mathlib.Core.Path.{_≡_, refl, sym, _∙_}
-use mathlib.Core.Bool.{Bool, true, false, cond, not, _&&_, and-false, and-assoc, and-eq-true-iff}
+use mathlib.Core.Bool.{Bool, true, false, not, _&&_, and-false, and-assoc, and-eq-true-iff}
 use Prim.Native.Nat.{ℕ, _+_, _≤_, _<_}
 use native.Mathlib.Numerals.{add-one}
 use native.Mathlib.Nat.{lt-of-lt-of-le}
 use borrow.Author.Tests.{ltb-true, leb-true, not-false}
 use lib.Dec.{leb, ltb}
 use Rattle.model.specs.declared.Work.{Work}
-use Rattle.model.specs.declared.Port.{Port}
-use Rattle.model.specs.declared.Copies.{Copies}
 use Rattle.model.specs.declared.Shared.{Shared}
 use Rattle.model.specs.declared.Table.{Table}
 use Rattle.model.specs.Table.{room, portAt, copiesAt}
-use Rattle.model.specs.Good.{fieldsGood, workGood, copiesGood, portEmpty, sizeGood, sharedGood, portGood, placeGood, everyBelow, good}
-
--- the rules for place i, with made of its port's seen owner and of its candidate
-unfoldable pub placeGoodOn : Shared → ℕ → Port → Copies → ℕ → ℕ → Bool
-placeGoodOn s i p c seenmade candidatemade =
-    cond (ltb i (s .d))
-    (fieldsGood (s .active) i p
-    && workGood (s .d) (p .point) (p .made) seenmade candidatemade (p .work)
-    && copiesGood (s .d) (p .made) c)
-    (portEmpty p c)
+use Rattle.model.specs.Good.{workGood, sizeGood, sharedGood, placeRules, placeGood, everyBelow, good}
 
 -- made of a seen owner or a candidate matters only where that is below d
 work-made : (d point made a a′ b b′ : ℕ) (w : Work) → (w .seenowner < d → a ≡ a′) → (w .candidate < d → b ≡ b′)
@@ -52,8 +41,8 @@ size-fits d b e n = leb-true d room (and-eq-true-iff (leb 1 d) (leb d room) .0 (
 pub place-turn : (t : Table) (i a b : ℕ) → t .shared .d ≤ room
     → (portAt t i .work .seenowner < room → a ≡ portAt t (portAt t i .work .seenowner) .made)
     → (portAt t i .work .candidate < room → b ≡ portAt t (portAt t i .work .candidate) .made)
-    → placeGoodOn (t .shared) i (portAt t i) (copiesAt t i) a b ≡ placeGood t i
-unfolding placeGoodOn placeGood portGood
+    → placeRules (t .shared) i (portAt t i) (copiesAt t i) a b ≡ placeGood t i
+unfolding placeRules placeGood
 place-turn t i a b h f g =
     rw
     (work-made (t .shared .d) (portAt t i .point) (portAt t i .made) a _ b _ (portAt t i .work)

@@ -6,8 +6,7 @@ use Rattle.model.specs.declared.Table.{Table}
 use Rattle.model.specs.declared.Port.{Port}
 use Rattle.model.specs.declared.Copies.{Copies}
 use Rattle.model.specs.declared.Shared.{Shared}
-use Rattle.model.specs.Good.{sizeGood, sharedGood, good}
-use Rattle.rules.specs.Check.{placeGoodOn}
+use Rattle.model.specs.Good.{sizeGood, sharedGood, placeRules, good}
 use Rattle.model.specs.Statements.{one}
 
 pub size-good-one : (d : ℕ) (r s : Bool) → r ≡ sizeGood d → s ≡ sizeGood d → r ≡ s
@@ -19,5 +18,5 @@ good-one t r s = one
 pub shared-good-one : (s : Shared) (made : ℕ) (q r : Bool) → q ≡ sharedGood s made → r ≡ sharedGood s made → q ≡ r
 shared-good-one s made q r = one
 
-pub place-good-one : (s : Shared) (i : ℕ) (p : Port) (c : Copies) (a b : ℕ) (q r : Bool) → q ≡ placeGoodOn s i p c a b → r ≡ placeGoodOn s i p c a b → q ≡ r
+pub place-good-one : (s : Shared) (i : ℕ) (p : Port) (c : Copies) (a b : ℕ) (q r : Bool) → q ≡ placeRules s i p c a b → r ≡ placeRules s i p c a b → q ≡ r
 place-good-one s i p c a b q r = one

@@ -17,8 +17,8 @@ use Rattle.model.specs.declared.Answer.the-variants.{Done, BadTable, BadImage}
 use Rattle.model.specs.Table.{room, noPort, noCopies, portAt, copiesAt, freshTable}
 use Rattle.model.specs.Event.{fresh}
 use Rattle.model.specs.Laws.Kept.{made-good}
-use Rattle.model.specs.Good.{everyBelow, sizeGood, sharedGood, portEmpty, placeGood, good}
-use Rattle.rules.specs.Check.{placeGoodOn, place-turn}
+use Rattle.model.specs.Good.{everyBelow, sizeGood, sharedGood, portEmpty, placeRules, placeGood, good}
+use Rattle.rules.specs.Check.{place-turn}
 use Rattle.layout.specs.Bytes.{sum, unpack, unpacks}
 use Rattle.layout.specs.Layout.{portWidths, copiesWidths, sharedOf, portOf, copiesOf, portPlace, copiesPlace}
 use Rattle.layout.specs.Laws.Records.{length-unpacks}
@@ -96,7 +96,7 @@ module _ (d : ℕ) (bs : List ℕ) where
 
   -- places at or above d are good
   place-above : (i : ℕ) → d ≤ i → placeGood (held d bs) i ≡ true
-  unfolding placeGood portEmpty
+  unfolding placeGood placeRules portEmpty
   place-above i h = rw (d-held, le-ltb i d h, port-above i h, copies-above i h)
 
   pub shared-held : 1 ≤ d → sharedIn d bs ≡ held d bs .shared
@@ -112,7 +112,7 @@ module _ (d : ℕ) (bs : List ℕ) where
   pub place-held : (s : Shared) (i : ℕ) (p : Port) (c : Copies) (a b : ℕ) → d ≤ room
       → s ≡ held d bs .shared → p ≡ portAt (held d bs) i → c ≡ copiesAt (held d bs) i
       → a ≡ portAt (held d bs) (p .work .seenowner) .made → b ≡ portAt (held d bs) (p .work .candidate) .made
-      → placeGoodOn s i p c a b ≡ placeGood (held d bs) i
+      → placeRules s i p c a b ≡ placeGood (held d bs) i
   place-held s i p c a b h es ep ec ea eb =
       let sa : a ≡ portAt (held d bs) (portAt (held d bs) i .work .seenowner) .made = ea ∙ ap (λ (q : Port). portAt (held d bs) (q .work .seenowner) .made) ep in
       let sb : b ≡ portAt (held d bs) (portAt (held d bs) i .work .candidate) .made = eb ∙ ap (λ (q : Port). portAt (held d bs) (q .work .candidate) .made) ep in

@@ -1,6 +1,6 @@
 -- The rules of a good table, one by one, as facts on numbers.
 use mathlib.Core.Path.{_≡_, ap}
-use mathlib.Core.Bool.{true, false, not, _&&_, and-eq-true-iff}
+use mathlib.Core.Bool.{Bool, true, false, not, _&&_, and-eq-true-iff}
 use mathlib.Core.List.{[], _∷_}
 use Prim.Native.Nat.{ℕ, _+_, _≤_, _<_}
 use native.Mathlib.Nat.{le-trans}
@@ -9,7 +9,7 @@ use Rattle.model.specs.declared.Table.{Table}
 use Rattle.model.specs.Table.{room, most, ABORT, portAt, copiesAt}
 use Rattle.model.specs.Mask.{stands, within}
 use Rattle.model.specs.Points.{Tens, two, three, four, tens, oneOf, ownPlace, seenPlace, candidatePlace, candidateSpinPlace}
-use Rattle.model.specs.Good.{everyBelow, named, sizeGood, sharedGood, fieldsGood, workGood, copiesGood, portGood, placeGood, good}
+use Rattle.model.specs.Good.{everyBelow, named, sizeGood, sharedGood, fieldsGood, workGood, copiesGood, placeRules, placeGood, good}
 use Rattle.model.specs.Laws.Tests.{conjunct, implied, every-below}
 
 -- what holds of the number of ports, of ACTIVE, of the word, and of their copy sets
@@ -76,14 +76,26 @@ setting-point three n q = rw q
 setting-point four n q = rw q
 
 -- the tests of port k pass
+abbrev pub portGood : Table → ℕ → Bool
+portGood t k =
+    fieldsGood (t .shared .active) k (portAt t k)
+    && workGood
+    (t .shared .d)
+    (portAt t k .point)
+    (portAt t k .made)
+    (portAt t (portAt t k .work .seenowner) .made)
+    (portAt t (portAt t k .work .candidate) .made)
+    (portAt t k .work)
+    && copiesGood (t .shared .d) (portAt t k .made) (copiesAt t k)
+
 pub port-good : (t : Table) (k : ℕ) → good t ≡ true → k < t .shared .d → portGood t k ≡ true
-unfolding good placeGood
+unfolding good placeGood placeRules
 port-good t k e h =
     let places = and-eq-true-iff (sizeGood (t .shared .d) && sharedGood (t .shared) _) (everyBelow room (placeGood t)) .0 e .1 in
     rw (lt-ltb k (t .shared .d) h) at (every-below room (placeGood t) places k (le-trans h (shared-rules t e .fits)))
 
 pub port-rules : (t : Table) (k : ℕ) → good t ≡ true → k < t .shared .d → PortRules t k
-unfolding portGood fieldsGood workGood copiesGood
+unfolding fieldsGood workGood copiesGood
 port-rules t k e h =
     let groups = conjunct _ (_ ∷ _ ∷ []) (port-good t k e h) in
     let fields = conjunct _ (_ ∷ _ ∷ _ ∷ _ ∷ _ ∷ _ ∷ _ ∷ _ ∷ _ ∷ []) (groups 0) in

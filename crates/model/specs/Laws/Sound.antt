@@ -16,10 +16,10 @@ use Rattle.model.specs.declared.Table.{Table}
 use Rattle.model.specs.Table.{room, most, ABORT, portAt, copiesAt}
 use Rattle.model.specs.Mask.{stands}
 use Rattle.model.specs.Points.{oneOf, ownPlace, seenPlace, candidatePlace, candidateSpinPlace}
-use Rattle.model.specs.Good.{implies, everyBelow, named, sizeGood, sharedGood, fieldsGood, workGood, copiesGood, portEmpty, portGood, placeGood, good}
+use Rattle.model.specs.Good.{implies, everyBelow, named, sizeGood, sharedGood, fieldsGood, workGood, copiesGood, portEmpty, placeRules, placeGood, good}
 use Rattle.model.specs.Laws.Tests.{conjunct, every-below}
 use Rattle.model.specs.Laws.Mask.{within-lt, lt-within}
-use Rattle.model.specs.Laws.Rules.{PortRules, shared-rules, port-good, port-rules}
+use Rattle.model.specs.Laws.Rules.{portGood, PortRules, shared-rules, port-good, port-rules}
 
 -- two tests that pass, a test that passes where another does, and a test that passes for every number below n
 infixl 35 _and_
@@ -116,7 +116,7 @@ made-value v m h = implying _ _ (λ (q : eqb m 0 ≡ true). eq-eqb v 0 (omega (a
 
 -- the rules of a good table for the room at or above D, and for a port
 place-empty : (t : Table) (k : ℕ) → good t ≡ true → t .shared .d ≤ k → k < room → portEmpty (portAt t k) (copiesAt t k) ≡ true
-unfolding good placeGood
+unfolding good placeGood placeRules
 place-empty t k e l h =
     let groups = and-eq-true-iff (sizeGood (t .shared .d) && sharedGood (t .shared) _) (everyBelow room (placeGood t)) .0 e in
     rw (le-ltb k (t .shared .d) l) at (every-below room (placeGood t) (groups .1) k h)
@@ -125,7 +125,7 @@ port-bounds : (t : Table) (k : ℕ) → PortRules t k → Bounds (t .shared .d) 
 port-bounds t k r = omega (arith, value-made _ _ (r .value) (r .unmade))
 
 port-fit : (t : Table) (k : ℕ) → good t ≡ true → k < t .shared .d → Fit (t .shared .d) (madeOf t) (stands (t .shared .active) k) (portAt t k)
-unfolding portGood fieldsGood workGood copiesGood oneOf
+unfolding fieldsGood workGood copiesGood oneOf
 port-fit t k e h =
     let groups = conjunct _ (_ ∷ _ ∷ []) (port-good t k e h) in
     let fields = conjunct _ (_ ∷ _ ∷ _ ∷ _ ∷ _ ∷ _ ∷ _ ∷ _ ∷ _ ∷ []) (groups 0) in
@@ -156,7 +156,7 @@ good-sound t e =
 -- a table with these facts is good
 fit-good : (t : Table) (k : ℕ) → Fit (t .shared .d) (madeOf t) (stands (t .shared .active) k) (portAt t k)
     → PortCopies (t .shared .d) (copiesAt t k) × (madeOf t k ≡ 0 → copiesAt t k .spin ≡ 0) → portGood t k ≡ true
-unfolding portGood fieldsGood workGood copiesGood oneOf
+unfolding fieldsGood workGood copiesGood oneOf
 fit-good t k f c =
     let b = f .bounds in
     let e = f .enters in
@@ -188,7 +188,7 @@ fit-good t k f c =
     and implying _ _ (λ q. eq-eqb _ _ (c .1 (eqb-true _ _ q))))
 
 pub sound-good : (t : Table) → Sound t → good t ≡ true
-unfolding good sizeGood sharedGood placeGood
+unfolding good sizeGood sharedGood placeGood placeRules
 sound-good t s =
     let w = s .word in
     (le-leb _ _ (s .some) and le-leb _ _ (s .fits))

@@ -1,11 +1,11 @@
 use borrow.Author.Needs.{needs}
 use borrow.Author.Tests.{lt-ltb, le-ltb}
-use Rattle.rules.specs.Check.{placeGoodOn}
+use Rattle.model.specs.Good.{placeRules}
 use Rattle.rules.proofs.good.place_good.Statement.{statement}
 use Rattle.rules.proofs.good.place_good.Tie as tie
 
 returns : tie.Need-returns
-unfolding placeGoodOn
+unfolding placeRules
 returns c =
     rw (
       lt-ltb _ _ (c .before .before .before .if1 .taken),
@@ -15,7 +15,7 @@ returns c =
     )
 
 returns-2 : tie.Need-returns-2
-unfolding placeGoodOn
+unfolding placeRules
 returns-2 c = rw (le-ltb _ _ (c .before .if1 .left)) (c .port-empty .ensures)
 
 pub place-good-spec : {M : Type 1} → statement M
