@@ -1,6 +1,5 @@
 -- What a reader believes of a schedule's lines; then how they are read byte by byte.
 pub mod Line
 pub mod Reading
-pub mod Parts
 pub mod Laws
 pub mod Statements

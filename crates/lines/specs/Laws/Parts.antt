@@ -16,7 +16,7 @@ use Rattle.lines.specs.declared.Stage.the-variants.{Opening, Running, Ov
 use Rattle.lines.specs.declared.Act.the-variants.{Keep, Open, Order, Bad}
 use Rattle.lines.specs.Line.{newline, space, nought, digit, letter, digits, number, wellFormed, eventOf, opens, orders}
 use Rattle.lines.specs.Reading.{lineAct, act}
-use Rattle.lines.specs.Parts.{shown, bytesOf, Fair, fits, whole, Told}
+use Rattle.lines.specs.Laws.Told.{shown, bytesOf, Fair, fits, whole, Told}
 use Rattle.lines.specs.Laws.Lines.{Clear}
 
 -- tests together

@@ -18,7 +18,7 @@ use Rattle.lines.specs.Reading.{cutOff, live}
 use Rattle.listing.specs.Feed.{feeding, ended, starting}
 use Rattle.listing.specs.Chain.{Prints, finished, over, fed}
 use Rattle.lines.specs.Laws.Lines.{Clear}
-use Rattle.lines.specs.Parts.{shown, bytesOf, Fair}
+use Rattle.lines.specs.Laws.Told.{shown, bytesOf, Fair}
 use Rattle.lines.specs.Laws.Parts.{fair-clear, unended, unfit}
 use Rattle.listing.specs.Laws.Pieces.{rest, restBy, First, sure-fresh, Ready, passes}
 

@@ -31,7 +31,7 @@ use Rattle.listing.specs.Listing.{listed, opened}
 use Rattle.lines.specs.Reading.{act, live}
 use Rattle.listing.specs.Feed.{runAt, acted, feeding}
 use Rattle.lines.specs.Laws.Lines.{restOfLine, first-line}
-use Rattle.lines.specs.Parts.{bytesOf, Fair, fits, whole, Told}
+use Rattle.lines.specs.Laws.Told.{bytesOf, Fair, fits, whole, Told}
 use Rattle.lines.specs.Laws.Parts.{fair-clear, told}
 
 -- what a run prints from here on: the lines of what it has read of a line and of what is left of the input
