@@ -25,7 +25,7 @@ use Rattle.model.specs.Laws.Ring.{next-any}
 use Rattle.model.specs.Points.{pointOf, settled}
 use Rattle.model.specs.Step.{withValue, view, step}
 use Rattle.model.specs.Cost.{charge}
-use Rattle.model.specs.Event.{numberOf, ordered, sharedAfter, copiesAfter, touchOf, homeOf, viewOf, moveOf, chargeOf, outcome, marked, stepped, free, carried}
+use Rattle.model.specs.Event.{numberOf, ordered, sharedAfter, copiesAfter, touchOf, homeOf, viewOf, moveOf, chargeOf, outcome, marks, marked, stepped, free, carried}
 use Rattle.model.specs.Paid.{paidAnswer, paidEvent}
 
 -- what a step may count on, of what it sees
@@ -93,7 +93,7 @@ module _ (t : Table) (k : ℕ) where
   assembled-step =
       rw
       (set-at
-      (moveOf t k .sets && latest (portAt t (homeOf t k)) (portAt t k .work .seenspin))
+      (marks t k)
       (set (t .ports) k (settled (moveOf t k .own)))
       (homeOf t k))
 

@@ -108,11 +108,12 @@ chargeOf t k =
 abbrev pub outcome : Table → ℕ → ℕ → Answer → Outcome
 outcome t m n a = record { table = t; cached = m; distributed = n; answer = a }
 
--- the ports with the seen owner's seen spin set to 1; a write to an older spin changes nothing
+-- the step of port k sets the seen owner's seen spin; a write to an older spin changes nothing. The ports with that spin set to 1
+abbrev pub marks : Table → ℕ → Bool
+marks t k = moveOf t k .sets && latest (portAt t (homeOf t k)) (portAt t k .work .seenspin)
+
 unfoldable pub marked : Table → ℕ → List Port → List Port
-marked t k ps =
-    cond (moveOf t k .sets && latest (portAt t (homeOf t k)) (portAt t k .work .seenspin))
-    (set ps (homeOf t k) (withValue 1 (getD ps (homeOf t k) noPort))) ps
+marked t k ps = cond (marks t k) (set ps (homeOf t k) (withValue 1 (getD ps (homeOf t k) noPort))) ps
 
 unfoldable pub stepped : Table → ℕ → Outcome
 stepped t k =

@@ -1,6 +1,6 @@
 -- The table after an order, but for the ports: the lengths of its lists, what all share, the copy sets of the ports, and what a step costs.
 use mathlib.Core.Path.{_≡_, refl, _∙_, ap}
-use mathlib.Core.Bool.{true, _&&_}
+use mathlib.Core.Bool.{true}
 use mathlib.Core.List.{List}
 use Prim.Native.Nat.{ℕ, _<_}
 use lib.ListN.{length, getD, set, length-set, length-replicate}
@@ -14,12 +14,12 @@ use Rattle.model.specs.declared.Touch.{Touch}
 use Rattle.model.specs.declared.Charge.{Charge}
 use Rattle.model.specs.declared.Cell.{Cell}
 use Rattle.model.specs.declared.Cell.the-variants.{Nothing, Status, Go, Spin, Active, Lock, CandidateGo, SeenSpin}
-use Rattle.model.specs.Table.{room, Sized, noPort, noCopies, portAt, copiesAt, putPort, latest, freshTable}
+use Rattle.model.specs.Table.{room, Sized, noPort, noCopies, portAt, copiesAt, putPort, freshTable}
 use Rattle.model.specs.Points.{settled}
 use Rattle.model.specs.Good.{good}
 use Rattle.model.specs.Step.{withValue}
 use Rattle.model.specs.Cost.{home, charge}
-use Rattle.model.specs.Event.{touchOf, homeOf, moveOf, sharedAfter, chargeOf, marked, stepped}
+use Rattle.model.specs.Event.{touchOf, homeOf, moveOf, sharedAfter, chargeOf, marks, marked, stepped}
 use Rattle.model.specs.Run.{Order, after}
 use Rattle.model.specs.Laws.Charges.{old, putShared, charge-parts}
 use Rattle.model.specs.Laws.Tests.{split}
@@ -38,7 +38,7 @@ length-marked : (t : Table) (k : ℕ) (ps : List Port) → length (marked t k ps
 unfolding marked
 length-marked t k ps =
     split (λ (l : List Port). length l ≡ length ps)
-    (moveOf t k .sets && latest (portAt t (homeOf t k)) (portAt t k .work .seenspin))
+    (marks t k)
     _
     _
     (λ e. length-set ps (homeOf t k) (withValue 1 (getD ps (homeOf t k) noPort)))

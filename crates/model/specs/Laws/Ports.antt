@@ -16,7 +16,7 @@ use Rattle.model.specs.Table.{room, noPort, portAt, putPort, latest, Siz
 use Rattle.model.specs.Points.{Tens, Point, none, p0, p1, p2, p3, p4, p5, p6, p8, p9, p10, p11, p12, p13, p14, p15, p16, p17, p18, p19, x0, x1, x2, x3, x4, x5, pointOf, settled}
 use Rattle.model.specs.Step.{withValue, step}
 use Rattle.model.specs.Cost.{touchAt}
-use Rattle.model.specs.Event.{touchOf, homeOf, moveOf, viewOf, marked, stepped}
+use Rattle.model.specs.Event.{touchOf, homeOf, moveOf, viewOf, marks, marked, stepped}
 use Rattle.model.specs.Laws.Tests.{split}
 use Rattle.model.specs.Laws.Own.{home-at}
 
@@ -37,8 +37,7 @@ pub record Sets (t : Table) (k j : ℕ) : Type 0 where
 
 -- the test of that; what a step that sets a spin has in hand
 unfoldable pub sets : Table → ℕ → ℕ → Bool
-sets t k j =
-    moveOf t k .sets && latest (portAt t (homeOf t k)) (portAt t k .work .seenspin) && eqb (homeOf t k) j
+sets t k j = marks t k && eqb (homeOf t k) j
 
 only-x5 : (q : Point) (v : View) → step q v .sets ≡ true → (x : Tens) × (q ≡ x5 x)
 unfolding step
@@ -113,7 +112,7 @@ port-after : (t : Table) (k j : ℕ) (p : Port) → portAt (putPort t k (settled
     → portAt (stepped t k .table) j ≡ cond (sets t k j) (withValue 1 p) p
 unfolding stepped marked sets
 port-after t k j p e =
-    change-at (moveOf t k .sets && latest (portAt t (homeOf t k)) (portAt t k .work .seenspin))
+    change-at (marks t k)
     (set (t .ports) k (settled (moveOf t k .own)))
     (homeOf t k)
     j
