@@ -1,7 +1,9 @@
 /* The lock engine of document 01 from C: the table of one lock with D ports, kept as an image in memory of yours.
  *
  * Link with the archive libcabi.a. Every function answers on every input: bytes of any kind, any length, any number. None
- * keeps a pointer, allocates, or touches memory outside the buffers that it is lent. The buffers of one call must not overlap.
+ * keeps a pointer, allocates, or touches memory outside the buffers that it is lent. The buffers of one call must not
+ * overlap, and calls on one image come one at a time. A call that is cut off, by a controller that stops, may leave its image
+ * half written.
  *
  * An answer carries a number in its lowest eight bits: 0 when done, else why it was refused. */
 
@@ -20,29 +22,32 @@ extern "C" {
 #define YARVELOW_IMAGE(d) (30 + 22 * (size_t)(d))
 #define YARVELOW_IMAGE_MOST YARVELOW_IMAGE(YARVELOW_PORTS)
 
+/* The byte of an image that is the point of port k: 0 while it is idle, 11 while it is inside. */
+#define YARVELOW_POINT(k) (26 + 16 * (size_t)(k))
+
 /* Events. Only a step costs anything. */
 enum yarvelow_order {
     YARVELOW_ENTER = 1,    /* an idle port begins a passage */
     YARVELOW_STEP = 2,     /* at most one memory operation */
-    YARVELOW_CRASH = 3,    /* the port forgets where it was and what it held in mind */
-    YARVELOW_CALL_OFF = 4, /* the port is to give up waiting */
-    YARVELOW_LEAVE = 5     /* a port that is inside begins to leave */
+    YARVELOW_CRASH = 3,    /* the port forgets where it was; if it was inside, its next step brings it back there */
+    YARVELOW_CALL_OFF = 4, /* the port is to give up waiting: step it until it is idle, or inside if its turn came first */
+    YARVELOW_LEAVE = 5     /* a port that is inside begins to leave; it has left with its next step */
 };
 
 /* Numbers of an answer. */
 enum yarvelow_number {
     YARVELOW_DONE = 0,
-    YARVELOW_BAD_TABLE = 1,     /* the image holds a table that isn't good */
+    YARVELOW_BAD_TABLE = 1,     /* an image by its form, of a table that breaks a rule of document 01 */
     YARVELOW_NO_SUCH_PORT = 2,  /* port at or above D */
     YARVELOW_NO_SUCH_EVENT = 3, /* event not 1 to 5 */
     YARVELOW_BUSY = 4,          /* enter, and the port is in a passage */
-    YARVELOW_WORN = 5,          /* the port has made all its spins */
+    YARVELOW_WORN = 5,          /* enter, and the port has made all its 65,535 spins, at most one for a passage */
     YARVELOW_NOT_INSIDE = 6,    /* leave, and the port isn't inside */
     YARVELOW_IDLE = 7,          /* step, crash or call off of an idle port */
     YARVELOW_INSIDE = 8,        /* step of a port that is inside */
     YARVELOW_BAD_SIZE = 9,      /* a fresh table with D not 1 to 16 */
     YARVELOW_SHORT_ROOM = 10,   /* the buffer is too short for the image */
-    YARVELOW_BAD_IMAGE = 11     /* length, version, D or contents of the image wrong */
+    YARVELOW_BAD_IMAGE = 11     /* no image: its length is not just that of its D, or its first 14 bytes are wrong */
 };
 
 /* The parts of an answer: the number; of yarvelow_fresh, the image's length; of an event, both costs. */
@@ -55,7 +60,8 @@ static inline unsigned yarvelow_distributed_of(uint64_t answer) { return (unsign
  * (BAD_SIZE, then SHORT_ROOM) it leaves every byte, and the length is 0; done, it leaves the bytes after the image. */
 uint64_t yarvelow_fresh(uint64_t d, uint8_t *room, size_t length);
 
-/* Looks whether an image can be used. Answers DONE, BAD_IMAGE, or BAD_TABLE. */
+/* Looks whether bytes are an image of a good table, and so can be used; not whether they were changed since they were
+ * written. Answers DONE, BAD_IMAGE, or BAD_TABLE. */
 uint64_t yarvelow_check(const uint8_t *image, size_t length);
 
 /* Carries out one event on an image where it stands. Answers number + 256 * cached cost + 65536 * distributed cost.

@@ -1,6 +1,6 @@
 -- What is proved of the lock, for a reader who knows the definitions and no proof. A statement stands under a comment that says in words what it means
 -- and which sentence of the demands or of document 01 it is; the line below it names its proof.
-use mathlib.Core.Path.{_≡_, sym, subst, _∙_}
+use mathlib.Core.Path.{_≡_, sym, subst, ap, _∙_}
 use mathlib.Core.Logic.{_≢_}
 use mathlib.Core.Bool.{true, false, _||_}
 use mathlib.Core.List.{List, [], _∷_}
@@ -11,6 +11,7 @@ use Rattle.model.specs.declared.Made.{Made}
 use Rattle.model.specs.Table.{room, Sized, portAt, freshTable}
 use Rattle.model.specs.Mask.{stands, joined, alone, added}
 use Rattle.model.specs.Ring.{next, distance}
+use Rattle.model.specs.Points.{p11, pointOf}
 use Rattle.model.specs.Good.{good}
 use Rattle.model.specs.Event.{numberOf, enter, stepping, crash, free, event, fresh}
 use Rattle.model.specs.Run.{Order, order, after, ran, reached, Critical, run, runAnswers, done, stepsAt, passedOver, passageCost, stepless}
@@ -22,6 +23,7 @@ use Rattle.model.specs.Laws.After.{fresh-sized}
 use Rattle.model.specs.Laws.Kept.{good-fresh, good-after, good-ran, room-fits}
 use Rattle.model.specs.Laws.Paid.{paid-event}
 use Rattle.model.specs.Laws.Reached.{reached-sized, reached-safe, reached-d}
+use Rattle.model.specs.Laws.Life.{row-at}
 use Rattle.model.specs.Laws.Only.{only-word, only-bit, only-go, only-status}
 use Rattle.model.specs.Laws.Exclusion.{one-critical, keeps-critical, returns-inside}
 use Rattle.model.specs.Laws.Grants.{done-steps}
@@ -101,6 +103,13 @@ module _ (d : ℕ) (some : 1 ≤ d) (fits : d ≤ room) where
   -- Demand 3, 'never two ports with critical status'
   pub exclusion : (os : List Order) (j k : ℕ) → Critical (reached d os) j → Critical (reached d os) k → j ≡ k
   exclusion os = one-critical (reached d os) (reached-safe d os)
+
+  -- a port that is inside, at point 11, has the critical status; so never two ports are inside
+  pub inside-critical : (os : List Order) (k : ℕ) → portAt (reached d os) k .point ≡ 11 → Critical (reached d os) k
+  inside-critical os k e = row-at p11 (reached-safe d os .life k) (ap pointOf e)
+
+  pub one-inside : (os : List Order) (j k : ℕ) → portAt (reached d os) j .point ≡ 11 → portAt (reached d os) k .point ≡ 11 → j ≡ k
+  one-inside os j k p q = exclusion os j k (inside-critical os j p) (inside-critical os k q)
 
   -- Demand 3, 'a port that crashed with it keeps it until it has left': a port with critical status keeps it under every order but its own step at 13
   pub keeps : (os : List Order) (k : ℕ) (o : Order) → Critical (reached d os) k → stepsAt k (13 ∷ []) (reached d os) o ≡ false

@@ -7,7 +7,7 @@ use std::fmt;
 #[derive(Clone, Copy, Debug, PartialEq, Eq, Hash)]
 #[repr(u8)]
 pub enum Refusal {
-    /// The image holds a table that isn't good.
+    /// An image by its form, of a table that breaks a rule of document 01.
     BadTable = 1,
     /// Port at or above D.
     NoSuchPort = 2,
@@ -15,7 +15,7 @@ pub enum Refusal {
     NoSuchEvent = 3,
     /// Enter, and the port is in a passage.
     Busy = 4,
-    /// The port has made all its spins.
+    /// Enter, and the port has made all its 65,535 spins, at most one for a passage.
     Worn = 5,
     /// Leave, and the port isn't inside.
     NotInside = 6,
@@ -27,7 +27,7 @@ pub enum Refusal {
     BadSize = 9,
     /// The room is too short for the image.
     ShortRoom = 10,
-    /// Length, version, D or contents of the image wrong.
+    /// No image: its length is not just that of its D, or its first 14 bytes are wrong.
     BadImage = 11,
 }
 

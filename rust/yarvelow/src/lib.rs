@@ -49,6 +49,24 @@ pub const fn image_length(d: usize) -> usize {
     30 + 22 * d
 }
 
+/// The byte of an image that is the point of port `k`: 0 while it is idle, 11 while it is inside.
+///
+/// ```
+/// use yarvelow::{point_place, Event, Lock};
+///
+/// # fn main() -> Result<(), yarvelow::Refusal> {
+/// let mut lock = Lock::fresh(2)?;
+/// lock.event(1, Event::Enter)?;
+/// while lock.event(1, Event::Step).is_ok() {}
+/// assert_eq!(lock.image()[point_place(0)], 0);
+/// assert_eq!(lock.image()[point_place(1)], 11);
+/// # Ok(())
+/// # }
+/// ```
+pub const fn point_place(k: usize) -> usize {
+    26 + 16 * k
+}
+
 /// An event at a port.
 #[derive(Clone, Copy, Debug, PartialEq, Eq, Hash)]
 #[repr(u64)]
@@ -57,11 +75,11 @@ pub enum Event {
     Enter = 1,
     /// S: at most one memory operation; the only event that costs anything.
     Step = 2,
-    /// X: the port forgets where it was and what it held in mind.
+    /// X: the port forgets where it was; if it was inside, its next step brings it back there.
     Crash = 3,
-    /// A: the port is to give up waiting.
+    /// A: the port is to give up waiting: step it until it is idle, or inside if its turn came first.
     CallOff = 4,
-    /// L: a port that is inside begins to leave.
+    /// L: a port that is inside begins to leave; it has left with its next step.
     Leave = 5,
 }
 
@@ -91,7 +109,7 @@ pub fn fresh(d: u64, room: &mut [u8]) -> Result<usize, Refusal> {
     done(answer).map(|()| (answer >> 8) as usize)
 }
 
-/// Looks whether an image can be used: `BadImage` or `BadTable` if not.
+/// Looks whether bytes are an image of a good table, and so can be used; not whether they were changed since they were written.
 ///
 /// ```
 /// use yarvelow::{check, fresh, Refusal, LONGEST};
