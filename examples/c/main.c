@@ -8,13 +8,14 @@
 #include <stdlib.h>
 #include <yarvelow.h>
 
-/* Steps a port until an event other than a step is due; counts its steps and sums up their costs. */
-static void walk(uint8_t *image, size_t length, uint64_t port, const char *what) {
+/* Steps a port until it is at the end that is named, INSIDE on the way in and IDLE on the way out; counts its steps and sums up
+ * their costs. (A port that was called off may come to either end.) */
+static void walk(uint8_t *image, size_t length, uint64_t port, unsigned end, const char *what) {
     unsigned steps = 0, cached = 0, distributed = 0;
     for (;;) {
         uint64_t answer = yarvelow_event(image, length, port, YARVELOW_STEP);
         unsigned number = yarvelow_number_of(answer);
-        if (number == YARVELOW_INSIDE || number == YARVELOW_IDLE) {
+        if (number == end) {
             break;
         }
         if (number != YARVELOW_DONE) {
@@ -46,8 +47,8 @@ int main(void) {
     }
     size_t length = yarvelow_length_of(answer);
     must(image, length, 0, YARVELOW_ENTER);
-    walk(image, length, 0, "in");
+    walk(image, length, 0, YARVELOW_INSIDE, "in");
     must(image, length, 0, YARVELOW_LEAVE);
-    walk(image, length, 0, "out");
+    walk(image, length, 0, YARVELOW_IDLE, "out");
     return yarvelow_check(image, length) == YARVELOW_DONE ? 0 : 1;
 }

@@ -2,8 +2,9 @@
 
 use yarvelow::{Event, Lock, Refusal};
 
-/// Steps a port until an event other than a step is due, and prints its steps and their costs.
-fn walk(lock: &mut Lock, port: u64, what: &str) -> Result<(), Refusal> {
+/// Steps a port until it is at the end that is named, `Inside` on the way in and `Idle` on the way out, and prints its steps and their costs. (A port that was
+/// called off may come to either end.)
+fn walk(lock: &mut Lock, port: u64, end: Refusal, what: &str) -> Result<(), Refusal> {
     let (mut steps, mut cached, mut distributed) = (0, 0, 0);
     loop {
         match lock.event(port, Event::Step) {
@@ -12,7 +13,7 @@ fn walk(lock: &mut Lock, port: u64, what: &str) -> Result<(), Refusal> {
                 cached += costs.cached;
                 distributed += costs.distributed;
             }
-            Err(Refusal::Inside | Refusal::Idle) => break,
+            Err(refusal) if refusal == end => break,
             Err(refusal) => return Err(refusal),
         }
     }
@@ -23,7 +24,7 @@ fn walk(lock: &mut Lock, port: u64, what: &str) -> Result<(), Refusal> {
 fn main() -> Result<(), Refusal> {
     let mut lock = Lock::fresh(2)?;
     lock.event(0, Event::Enter)?;
-    walk(&mut lock, 0, "in")?;
+    walk(&mut lock, 0, Refusal::Inside, "in")?;
     lock.event(0, Event::Leave)?;
-    walk(&mut lock, 0, "out")
+    walk(&mut lock, 0, Refusal::Idle, "out")
 }

@@ -8,7 +8,7 @@ use borrow.Author.Tests.{ltb-true, leb-true, eqb-true, eq-eqb, lt-ltb, not-true}
 use Rattle.model.specs.declared.Table.{Table}
 use Rattle.model.specs.Table.{room, most, ABORT, portAt, copiesAt}
 use Rattle.model.specs.Mask.{stands, within}
-use Rattle.model.specs.Points.{Tens, two, three, four, tens, oneOf, ownPlace, seenPlace, candidatePlace, candidateSpinPlace}
+use Rattle.model.specs.Points.{Tens, two, three, four, tens, oneOf, candidateSpinPlace}
 use Rattle.model.specs.Good.{everyBelow, named, sizeGood, sharedGood, fieldsGood, workGood, copiesGood, placeRules, placeGood, good}
 use Rattle.model.specs.Laws.Tests.{conjunct, implied, every-below}
 
@@ -40,7 +40,7 @@ shared-rules t e =
       spin = leb-true _ _ (shared 5);
     }
 
--- what holds of port k below D: its fields, its working values, and the copy sets of its words
+-- what holds of port k below D and is used: of its fields, its working values, and the copy sets of its words
 pub record PortRules (t : Table) (k : ℕ) : Type 0 where
   pub point : named (portAt t k .point) ≡ true
   pub status : portAt t k .status ≤ ABORT
@@ -58,10 +58,6 @@ pub record PortRules (t : Table) (k : ℕ) : Type 0 where
   pub seenspin : portAt t k .work .seenspin ≤ portAt t (portAt t k .work .seenowner) .made
   pub candidatespin : portAt t k .work .candidatespin ≤ portAt t (portAt t k .work .candidate) .made
   pub setting : (x : Tens) → portAt t k .point ≡ tens x + 5 → 0 < portAt t k .work .seenspin
-  pub noOwn : ownPlace (portAt t k .point) ≡ false → portAt t k .work .own ≡ 0
-  pub noSeenowner : seenPlace (portAt t k .point) ≡ false → portAt t k .work .seenowner ≡ 0
-  pub noSeenspin : seenPlace (portAt t k .point) ≡ false → portAt t k .work .seenspin ≡ 0
-  pub noCandidate : candidatePlace (portAt t k .point) ≡ false → portAt t k .work .candidate ≡ 0
   pub noCandidatespin : candidateSpinPlace (portAt t k .point) ≡ false → portAt t k .work .candidatespin ≡ 0
   pub statuscopies : within (t .shared .d) (copiesAt t k .status) ≡ true
   pub gocopies : within (t .shared .d) (copiesAt t k .go) ≡ true
@@ -118,10 +114,6 @@ port-rules t k e h =
       seenspin = leb-true _ _ (work 3);
       candidatespin = leb-true _ _ (work 4);
       setting = λ x q. ltb-true _ _ (implied _ _ (work 5) (setting-point x _ q));
-      noOwn = λ q. eqb-true _ _ (implied _ _ (work 6) (ap not q));
-      noSeenowner = λ q. eqb-true _ _ (implied _ _ (work 7) (ap not q));
-      noSeenspin = λ q. eqb-true _ _ (implied _ _ (work 8) (ap not q));
-      noCandidate = λ q. eqb-true _ _ (implied _ _ (work 9) (ap not q));
       noCandidatespin = λ q. eqb-true _ _ (implied _ _ (work 10) (ap not q));
       statuscopies = copies 0;
       gocopies = copies 1;
