@@ -7,7 +7,8 @@ use lib.ListN.{length}
 use lib.Seq.{sets}
 use Rattle.model.specs.declared.Outcome.{Outcome}
 use Rattle.model.specs.declared.Answer.{Answer}
-use Rattle.model.specs.Event.{numberOf, free, fresh, event}
+use Rattle.model.specs.Cost.{free}
+use Rattle.model.specs.Event.{numberOf, fresh, event}
 use Rattle.model.specs.Run.{Order, codeOf}
 use Rattle.image.specs.Image.{encode, decode, writeAnswer, written, roomAfter}
 

@@ -10,7 +10,7 @@ use Rattle.model.specs.declared.Touch.{Touch}
 use Rattle.model.specs.declared.Charge.{Charge}
 use Rattle.model.specs.declared.Cell.{Cell}
 use Rattle.model.specs.Table.{latest}
-use Rattle.model.specs.Cost.{home, charge}
+use Rattle.model.specs.Parts.Charges.{home, charge}
 use Rattle.model.specs.Statements.{one}
 
 pub home-one : (cell : Cell) (k : ℕ) (w : Work) (r s : ℕ) → r ≡ home cell k w → s ≡ home cell k w → r ≡ s

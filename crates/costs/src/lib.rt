@@ -13,11 +13,11 @@ ghost use Prim.Native.Nat.{_%_};
 ghost use Rattle.model.specs.Mask.{stands};
 ghost use Rattle.model.specs.Table as Table;
 ghost use Rattle.model.specs.Cost as Cost;
-ghost use Rattle.model.specs.Laws.Charges as Charges;
+ghost use Rattle.model.specs.Parts.Charges as Charges;
 
 // The port that a word belongs to, as port k touches it; ACTIVE and the lock word count with k.
 pub fn home(cell: Cell, k: u64, w: Work) -> u64
-    ensures { λ r. ⌜ r ≡ Cost.home cell k w ⌝ }
+    ensures { λ r. ⌜ r ≡ Charges.home cell k w ⌝ }
 {
     match cell {
         Cell::Nothing => k,
@@ -100,7 +100,7 @@ fn missed(m: u64, k: u64) -> u64
 }
 
 fn cached(kind: Kind, k: u64, m: u64) -> u64
-    ensures { λ r. ⌜ r ≡ Cost.cached kind (k % 64) m ⌝ }
+    ensures { λ r. ⌜ r ≡ Charges.cached kind (k % 64) m ⌝ }
 {
     match kind {
         Kind::Nothing => 0,
@@ -112,7 +112,7 @@ fn cached(kind: Kind, k: u64, m: u64) -> u64
 }
 
 fn copied(kind: Kind, k: u64, m: u64) -> u64
-    ensures { λ r. ⌜ r ≡ Cost.copied kind (k % 64) m ⌝ }
+    ensures { λ r. ⌜ r ≡ Charges.copied kind (k % 64) m ⌝ }
 {
     match kind {
         Kind::Nothing => m,
@@ -179,7 +179,7 @@ fn put_copies(cell: Cell, m: u64, c: Copies) -> Copies
 
 // What a touch by port k costs, and the copy sets after it; q is the port that the word belongs to, and c its copy sets.
 pub fn charge(u: Touch, k: u64, w: Work, q: Port, s: Shared, c: Copies) -> Charge
-    ensures { λ r. ⌜ r ≡ Cost.charge u (k % 64) w q s c ⌝ }
+    ensures { λ r. ⌜ r ≡ Charges.charge u (k % 64) w q s c ⌝ }
 {
     let cell = u.cell;
     let kind = u.kind;

@@ -9,7 +9,7 @@ use Rattle.model.specs.declared.Table.{Table}
 use Rattle.model.specs.declared.Made.{Made}
 use Rattle.model.specs.declared.Answer.{Answer}
 use Rattle.model.specs.declared.Answer.the-variants.{Done, BadTable, ShortRoom, BadImage}
-use Rattle.model.specs.Table.{room, noPort, noCopies, freshTable}
+use Rattle.model.specs.Table.{room, table, noPort, noCopies, freshTable}
 use Rattle.model.specs.Good.{sizeGood, good}
 use Rattle.model.specs.Event.{numberOf}
 use Rattle.layout.specs.Bytes.{sum, pack, unpack, unpacks}
@@ -33,11 +33,10 @@ isImage bs = sizeGood (dIn bs) && eqb (length bs) (size (dIn bs))
 
 -- the table of d ports that the bytes stand for; room kept for ports at or above d is all 0
 unfoldable pub held : ℕ → List ℕ → Table
-held d bs = record {
-  ports = map portOf (unpacks portWidths d (drop (portPlace 0) bs)) ++ replicate (room - d) noPort;
-  copies = map copiesOf (unpacks copiesWidths d (drop (copiesPlace d 0) bs)) ++ replicate (room - d) noCopies;
-  shared = sharedOf d (unpack sharedWidths (drop (sum headWidths) bs)) (unpack copiedWidths (drop (portPlace d) bs));
-}
+held d bs =
+    table (map portOf (unpacks portWidths d (drop (portPlace 0) bs)) ++ replicate (room - d) noPort)
+    (map copiesOf (unpacks copiesWidths d (drop (copiesPlace d 0) bs)) ++ replicate (room - d) noCopies)
+    (sharedOf d (unpack sharedWidths (drop (sum headWidths) bs)) (unpack copiedWidths (drop (portPlace d) bs)))
 
 -- a refused read gives the fresh table of D = 1
 abbrev pub refused : Answer → Made

@@ -10,7 +10,7 @@ use lib.ListN.{getD, drop, List·getD-append}
 use Rattle.model.specs.declared.View.{View}
 use Rattle.model.specs.Points.{Tens, two, three, four, none, promotion, points, pointOf, oneOf}
 use Rattle.model.specs.Good.{everyBelow}
-use Rattle.model.specs.Step.{changed, step}
+use Rattle.model.specs.Parts.Moves.{changed, step}
 use Rattle.model.specs.Laws.Tests.{every-below}
 use Rattle.points.specs.Places.{nones, from}
 

@@ -15,8 +15,9 @@ use Rattle.model.specs.declared.Cell.the-variants.{Nothing, Status, Go, Spin, A
 use Rattle.model.specs.Table.{room, most, portAt}
 use Rattle.model.specs.Mask.{within}
 use Rattle.model.specs.Good.{sizeGood}
-use Rattle.model.specs.Cost.{home}
-use Rattle.model.specs.Event.{numberOf, stepping, firstOf, refusals, touchOf, homeOf, viewOf}
+use Rattle.model.specs.Event.{numberOf, stepping, firstOf, refusals}
+use Rattle.model.specs.Parts.Charges.{home}
+use Rattle.model.specs.Parts.Steps.{touchOf, homeOf, viewOf}
 use Rattle.model.specs.Paid.{placed, paidAnswer}
 use Rattle.model.specs.Laws.Mask.{within-lt}
 use Rattle.model.specs.Laws.Cases.{unrefused-step}

@@ -22,10 +22,14 @@ use Rattle.model.specs.declared.Answer.the-variants.{Done}
 use Rattle.model.specs.Table.{most, table, noPort, portAt, copiesAt, putPort, latest}
 use Rattle.model.specs.Ring.{next}
 use Rattle.model.specs.Laws.Ring.{next-any}
+use Rattle.model.specs.Laws.Stepped.{carried-parts}
 use Rattle.model.specs.Points.{pointOf, settled}
-use Rattle.model.specs.Step.{withValue, view, step}
-use Rattle.model.specs.Cost.{charge}
-use Rattle.model.specs.Event.{numberOf, ordered, sharedAfter, copiesAfter, touchOf, homeOf, viewOf, moveOf, chargeOf, outcome, marks, marked, stepped, free, carried}
+use Rattle.model.specs.Cost.{outcome, free}
+use Rattle.model.specs.Step.{withValue}
+use Rattle.model.specs.Event.{numberOf, ordered}
+use Rattle.model.specs.Parts.Moves.{view, step}
+use Rattle.model.specs.Parts.Charges.{charge}
+use Rattle.model.specs.Parts.Steps.{sharedAfter, copiesAfter, touchOf, homeOf, viewOf, moveOf, chargeOf, marks, marked, stepped}
 use Rattle.model.specs.Paid.{paidAnswer, paidEvent}
 
 -- what a step may count on, of what it sees
@@ -105,11 +109,11 @@ module _ (t : Table) (k e : ℕ) where
 
   module _ (z : numberOf (paidAnswer (t .shared) k e (portAt t k)) ≡ 0) where
     pub obeyed : (e ≡ 2 → ⊥) → paidEvent t k e ≡ free Done (putPort t k (ordered e (portAt t k)))
-    unfolding paidEvent carried
-    obeyed n = rw (eq-eqb (numberOf (paidAnswer (t .shared) k e (portAt t k))) 0 z, ne-eqb e 2 n)
+    unfolding paidEvent
+    obeyed n = rw (carried-parts t k e, eq-eqb (numberOf (paidAnswer (t .shared) k e (portAt t k))) 0 z, ne-eqb e 2 n)
 
     pub moved : e ≡ 2 → (j : ℕ) (l : Left) → j ≡ homeOf t k → l ≡ steppedOn (touchOf t k) (t .shared) k (portAt t k) (portAt t j) (copiesAt t j)
         → assembled t k j l ≡ paidEvent t k e
-    unfolding paidEvent carried
+    unfolding paidEvent
     moved s j l x y =
-        rw (eq-eqb (numberOf (paidAnswer (t .shared) k e (portAt t k))) 0 z, eq-eqb e 2 s) (rw (y, x) (assembled-step t k))
+        rw (carried-parts t k e, eq-eqb (numberOf (paidAnswer (t .shared) k e (portAt t k))) 0 z, eq-eqb e 2 s) (rw (y, x) (assembled-step t k))

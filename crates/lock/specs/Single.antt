@@ -12,7 +12,8 @@ use Rattle.model.specs.declared.Outcome.{Outcome}
 use Rattle.model.specs.declared.Made.{Made}
 use Rattle.model.specs.declared.Answer.{Answer}
 use Rattle.model.specs.declared.Answer.the-variants.{Done, BadTable, NoSuchPort, NoSuchEvent, Busy, Worn, NotInside, Idle, Inside, BadSize, ShortRoom, BadImage}
-use Rattle.model.specs.Event.{numberOf, firstOf, refusal, free, event}
+use Rattle.model.specs.Cost.{free}
+use Rattle.model.specs.Event.{numberOf, firstOf, refusal, event}
 use Rattle.model.specs.Good.{good}
 use Rattle.model.specs.Run.{Order, ran, orders, codeOf, codes, ordersFor, run, runAnswers}
 use Rattle.model.specs.Paid.{paidEvent, paidRan, paidCodes}

@@ -18,7 +18,9 @@ use Rattle.model.specs.declared.Answer.{Answer}
 use Rattle.model.specs.declared.Answer.the-variants.{Done, BadTable}
 use Rattle.model.specs.Table.{Sized}
 use Rattle.model.specs.Good.{good}
-use Rattle.model.specs.Event.{numberOf, sharedAfter, copiesAfter, free}
+use Rattle.model.specs.Cost.{free}
+use Rattle.model.specs.Event.{numberOf}
+use Rattle.model.specs.Parts.Steps.{sharedAfter, copiesAfter}
 use Rattle.model.specs.Run.{Order, order, orders, codeOf, run, runAnswers}
 use Rattle.model.specs.Paid.{paidEvent, paidRan, paidCodes}
 use Rattle.model.specs.Laws.Paid.{paid-sized, paid-ran, paid-codes}

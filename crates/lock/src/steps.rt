@@ -12,6 +12,7 @@ ghost use Rattle.model.specs.Table as Table;
 ghost use Rattle.model.specs.Points as Points;
 ghost use Rattle.model.specs.Points.{Tens, tens};
 ghost use Rattle.model.specs.Step as Step;
+ghost use Rattle.model.specs.Parts.Moves as Moves;
 ghost use Rattle.lock.specs.Sight.{Sight};
 
 pub const TRY: u8 = 0;
@@ -30,7 +31,7 @@ fn pick(test: bool, a: u8, b: u8) -> u8
 
 // What a step changes: its own record alone; and ACTIVE; and the word.
 fn changed(v: View, p: Port) -> Move
-    ensures { λ r. ⌜ r ≡ Step.changed v p ⌝ }
+    ensures { λ r. ⌜ r ≡ Moves.changed v p ⌝ }
 {
     let w = v.word;
     Move {
@@ -43,7 +44,7 @@ fn changed(v: View, p: Port) -> Move
 }
 
 fn changed_active(v: View, a: u64, p: Port) -> Move
-    ensures { λ r. ⌜ r ≡ Step.changedActive v a p ⌝ }
+    ensures { λ r. ⌜ r ≡ Moves.changedActive v a p ⌝ }
 {
     let w = v.word;
     Move {
@@ -56,7 +57,7 @@ fn changed_active(v: View, a: u64, p: Port) -> Move
 }
 
 fn changed_word(v: View, w: Word, p: Port) -> Move
-    ensures { λ r. ⌜ r ≡ Step.changedWord v w p ⌝ }
+    ensures { λ r. ⌜ r ≡ Moves.changedWord v w p ⌝ }
 {
     Move {
         own: p,
@@ -95,7 +96,7 @@ fn after_status(status: u8) -> u8
 // Point 4: a new spin.
 fn new_spin(v: View) -> Move
     requires { ⌜ v .own .made < Table.most ⌝ }
-    ensures { λ r. ⌜ r ≡ Step.step Points.p4 v ⌝ }
+    ensures { λ r. ⌜ r ≡ Moves.step Points.p4 v ⌝ }
 {
     let mut p = v.own;
     let n = p.made + 1;
@@ -117,7 +118,7 @@ fn new_spin(v: View) -> Move
 // Point 17: the word released, where it is this port's with its own spin.
 fn released(v: View) -> Word
     requires { ⌜ v .k < 256 ⌝ }
-    ensures { λ r. ⌜ r ≡ Step.released v ⌝ }
+    ensures { λ r. ⌜ r ≡ Moves.released v ⌝ }
 {
     let owner = v.k as u8;
     let spin = v.own.work.own;
@@ -137,7 +138,7 @@ fn released(v: View) -> Word
 // The points on the way in, below 11.
 fn entering(v: View) -> Move
     requires { ⌜ Sight v ⌝ }
-    ensures { λ r. ⌜ (v .own .point < 11 → r ≡ Step.step (Points.pointOf (v .own .point)) v) ⌝ }
+    ensures { λ r. ⌜ (v .own .point < 11 → r ≡ Moves.step (Points.pointOf (v .own .point)) v) ⌝ }
 {
     let mut p = v.own;
     let n = p.point;
@@ -185,7 +186,7 @@ fn entering(v: View) -> Move
 // The points from 11 on and below 20, on the way out.
 fn leaving(v: View) -> Move
     requires { ⌜ Sight v ⌝ }
-    ensures { λ r. ⌜ (11 ≤ v .own .point → v .own .point < 20 → r ≡ Step.step (Points.pointOf (v .own .point)) v) ⌝ }
+    ensures { λ r. ⌜ (11 ≤ v .own .point → v .own .point < 20 → r ≡ Moves.step (Points.pointOf (v .own .point)) v) ⌝ }
 {
     let mut p = v.own;
     let n = p.point;
@@ -236,7 +237,7 @@ fn leaving(v: View) -> Move
 // x1: the port with its candidate at the next point. Where ACTIVE is 0, at 31 the port itself is candidate, 32; at 21 and 41, x4.
 fn asked(v: View, x: u8) -> Port
     requires { ⌜ Sight v × (x < 50) ⌝ }
-    ensures { λ r. ⌜ ((y : Tens) → x ≡ tens y → Step.changed v r ≡ Step.step (Points.x1 y) v) ⌝ }
+    ensures { λ r. ⌜ ((y : Tens) → x ≡ tens y → Moves.changed v r ≡ Moves.step (Points.x1 y) v) ⌝ }
 {
     let mut p = v.own;
     if v.active == 0 {
@@ -257,7 +258,7 @@ fn asked(v: View, x: u8) -> Port
 
 // x3: the word granted to the candidate, where it is still as seen.
 fn granted(v: View) -> Word
-    ensures { λ r. ⌜ r ≡ Step.granted v ⌝ }
+    ensures { λ r. ⌜ r ≡ Moves.granted v ⌝ }
 {
     let w = v.own.work;
     let old = Word {
@@ -292,7 +293,7 @@ fn looked(v: View, x: u8, back: u8) -> Port
 // The i-th point of the promotion with tens x, which goes back to `back`.
 fn promoted(v: View, i: u8, x: u8, back: u8) -> Move
     requires { ⌜ Sight v × (x < 50) ⌝ }
-    ensures { λ r. ⌜ ((y : Tens) → x ≡ tens y → back ≡ Points.back y → r ≡ Step.step (getD (Points.promotion y) i Points.none) v) ⌝ }
+    ensures { λ r. ⌜ ((y : Tens) → x ≡ tens y → back ≡ Points.back y → r ≡ Moves.step (getD (Points.promotion y) i Points.none) v) ⌝ }
 {
     let mut p = v.own;
     match i {
@@ -330,7 +331,7 @@ fn promoted(v: View, i: u8, x: u8, back: u8) -> Move
 
 pub fn step(v: View) -> Move
     requires { ⌜ Sight v ⌝ }
-    ensures { λ r. ⌜ r ≡ Step.step (Points.pointOf (v .own .point)) v ⌝ }
+    ensures { λ r. ⌜ r ≡ Moves.step (Points.pointOf (v .own .point)) v ⌝ }
 {
     let n = v.own.point;
     if n < 11 {

@@ -3,24 +3,17 @@ use mathlib.Core.Bool.{Bool, cond, not, _&&_, _||_}
 use mathlib.Core.List.{List, [], _∷_}
 use Prim.Native.Nat.{ℕ}
 use lib.Dec.{eqb, leb}
-use lib.ListN.{getD, set}
 use Rattle.model.specs.declared.Port.{Port}
-use Rattle.model.specs.declared.Copies.{Copies}
-use Rattle.model.specs.declared.Shared.{Shared}
 use Rattle.model.specs.declared.Table.{Table}
-use Rattle.model.specs.declared.View.{View}
-use Rattle.model.specs.declared.Move.{Move}
-use Rattle.model.specs.declared.Touch.{Touch}
-use Rattle.model.specs.declared.Charge.{Charge}
 use Rattle.model.specs.declared.Outcome.{Outcome}
 use Rattle.model.specs.declared.Made.{Made}
 use Rattle.model.specs.declared.Answer.{Answer}
 use Rattle.model.specs.declared.Answer.the-variants.{Done, BadTable, NoSuchPort, NoSuchEvent, Busy, Worn, NotInside, Idle, Inside, BadSize, ShortRoom, BadImage}
-use Rattle.model.specs.Table.{most, copies, shared, table, noWork, noPort, portAt, copiesAt, putPort, latest, freshTable}
-use Rattle.model.specs.Points.{pointOf, settled}
+use Rattle.model.specs.Table.{most, noWork, portAt, putPort, freshTable}
+use Rattle.model.specs.Points.{pointOf}
 use Rattle.model.specs.Good.{sizeGood, good}
-use Rattle.model.specs.Step.{at, withFlag, withValue, withWork, view, step}
-use Rattle.model.specs.Cost.{touchAt, home, charge}
+use Rattle.model.specs.Cost.{free}
+use Rattle.model.specs.Step.{at, withFlag, withWork, step}
 
 -- document 01's number for every answer
 abbrev pub numberOf : Answer → ℕ
@@ -79,55 +72,10 @@ unfoldable pub ordered : ℕ → Port → Port
 ordered e p =
     cond (eqb e enter) (at 1 p) (cond (eqb e crash) (at 1 (withWork noWork p)) (cond (eqb e callOff) (withFlag 1 p) (at 13 p)))
 
--- the step of port k: which word it touches, the port that the word belongs to, what it sees, what it changes, what it costs
-unfoldable pub touchOf : Table → ℕ → Touch
-touchOf t k = touchAt (pointOf (portAt t k .point))
-
-unfoldable pub homeOf : Table → ℕ → ℕ
-homeOf t k = home (touchOf t k .cell) k (portAt t k .work)
-
-unfoldable pub viewOf : Table → ℕ → View
-viewOf t k = view (portAt t k) (t .shared .active) (t .shared .d) k (portAt t (homeOf t k) .go) (t .shared .word)
-
-unfoldable pub moveOf : Table → ℕ → Move
-moveOf t k = step (pointOf (portAt t k .point)) (viewOf t k)
-
--- what all share with the move's ACTIVE and word; the copies of a port's words, with none of a spin that is new
-abbrev pub sharedAfter : Move → Shared → Shared
-sharedAfter m s = shared (m .active) (s .activecopies) (s .wordcopies) (s .d) (m .word)
-
-abbrev pub copiesAfter : Move → Copies → Copies
-copiesAfter m c = copies (c .status) (c .go) (cond (m .makes) 0 (c .spin))
-
-unfoldable pub chargeOf : Table → ℕ → Charge
-chargeOf t k =
-    charge (touchOf t k) k (portAt t k .work) (portAt t (homeOf t k))
-    (sharedAfter (moveOf t k) (t .shared)) (copiesAfter (moveOf t k) (copiesAt t (homeOf t k)))
-
--- what an event answers: the table after it, its cached and distributed cost, DONE or a refusal
-abbrev pub outcome : Table → ℕ → ℕ → Answer → Outcome
-outcome t m n a = record { table = t; cached = m; distributed = n; answer = a }
-
--- the step of port k sets the seen owner's seen spin; a write to an older spin changes nothing. The ports with that spin set to 1
-abbrev pub marks : Table → ℕ → Bool
-marks t k = moveOf t k .sets && latest (portAt t (homeOf t k)) (portAt t k .work .seenspin)
-
-unfoldable pub marked : Table → ℕ → List Port → List Port
-marked t k ps = cond (marks t k) (set ps (homeOf t k) (withValue 1 (getD ps (homeOf t k) noPort))) ps
-
-unfoldable pub stepped : Table → ℕ → Outcome
-stepped t k =
-    outcome (table (marked t k (set (t .ports) k (settled (moveOf t k .own))))
-    (set (t .copies) (homeOf t k) (chargeOf t k .copies)) (chargeOf t k .shared))
-    (chargeOf t k .cached) (chargeOf t k .distributed) Done
-
--- an answer with costs 0: a refused event gives the table that it got
-abbrev pub free : Answer → Table → Outcome
-free a t = outcome t 0 0 a
-
 -- an event that is not refused; only S costs anything
 unfoldable pub carried : Table → ℕ → ℕ → Outcome
-carried t k e = cond (eqb e stepping) (stepped t k) (free Done (putPort t k (ordered e (portAt t k))))
+carried t k e =
+    cond (eqb e stepping) (step (pointOf (portAt t k .point)) t k (portAt t k)) (free Done (putPort t k (ordered e (portAt t k))))
 
 unfoldable pub event : Table → ℕ → ℕ → Outcome
 event t k e = cond (eqb (numberOf (refusal t k e)) 0) (carried t k e) (free (refusal t k e) t)

@@ -71,17 +71,15 @@ portEmpty p c =
     && eqb (p .work .candidate) 0 && eqb (p .work .candidatespin) 0
     && eqb (c .status) 0 && eqb (c .go) 0 && eqb (c .spin) 0
 
--- the rules for place k, with made of its port's seen owner and of its candidate; all of them in a table
-unfoldable pub placeRules : Shared → ℕ → Port → Copies → ℕ → ℕ → Bool
-placeRules s k p c seenmade candidatemade =
-    cond (ltb k (s .d))
-    (fieldsGood (s .active) k p && workGood (s .d) (p .point) (p .made) seenmade candidatemade (p .work) && copiesGood (s .d) (p .made) c)
-    (portEmpty p c)
-
+-- the rules for place k, a port or room kept for one; all of them in a table
 unfoldable pub placeGood : Table → ℕ → Bool
 placeGood t k =
-    placeRules (t .shared) k (portAt t k) (copiesAt t k)
-    (portAt t (portAt t k .work .seenowner) .made) (portAt t (portAt t k .work .candidate) .made)
+    let p = portAt t k in
+    cond (ltb k (t .shared .d))
+    (fieldsGood (t .shared .active) k p
+    && workGood (t .shared .d) (p .point) (p .made) (portAt t (p .work .seenowner) .made) (portAt t (p .work .candidate) .made) (p .work)
+    && copiesGood (t .shared .d) (p .made) (copiesAt t k))
+    (portEmpty p (copiesAt t k))
 
 unfoldable pub good : Table → Bool
 good t =

@@ -5,8 +5,8 @@ pub mod Compute
 pub mod Mask
 pub mod Ring
 pub mod Rules
+pub mod Stepped
 pub mod Cases
-pub mod Charges
 pub mod Own
 pub mod Grants
 pub mod After

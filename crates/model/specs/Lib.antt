@@ -4,11 +4,12 @@ pub mod Mask
 pub mod Ring
 pub mod Points
 pub mod Good
-pub mod Step
 pub mod Cost
+pub mod Step
 pub mod Event
 pub mod Run
 pub mod Paid
+pub mod Parts
 pub mod Laws
 pub mod Statements
 pub mod Samples

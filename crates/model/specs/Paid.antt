@@ -12,7 +12,8 @@ use Rattle.model.specs.declared.Answer.the-variants.{BadTable, NoSuchPor
 use Rattle.model.specs.Table.{most, portAt}
 use Rattle.model.specs.Mask.{within}
 use Rattle.model.specs.Good.{sizeGood}
-use Rattle.model.specs.Event.{numberOf, refusals, firstOf, carried, free}
+use Rattle.model.specs.Cost.{free}
+use Rattle.model.specs.Event.{numberOf, refusals, firstOf, carried}
 use Rattle.model.specs.Run.{Order, codeOf}
 
 -- what a step needs of its port: its seen owner and its candidate are ports, and made is a count of spins

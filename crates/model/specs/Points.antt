@@ -49,30 +49,21 @@ abbrev pub fromTo : ℕ → ℕ → ℕ → Bool
 fromTo n a b = leb a n && leb n b
 
 -- where each working value has its place
-abbrev pub seenPoints : List ℕ
-seenPoints = 21 ∷ 22 ∷ 23 ∷ 25 ∷ 31 ∷ 32 ∷ 33 ∷ 35 ∷ 41 ∷ 42 ∷ 43 ∷ 45 ∷ []
-
-abbrev pub candidatePoints : List ℕ
-candidatePoints = 22 ∷ 23 ∷ 32 ∷ 33 ∷ 42 ∷ 43 ∷ []
-
-abbrev pub candidateSpinPoints : List ℕ
-candidateSpinPoints = 23 ∷ 33 ∷ 43 ∷ []
-
 unfoldable pub ownPlace : ℕ → Bool
 unfolding oneOf
 ownPlace n = oneOf n (5 ∷ 6 ∷ 8 ∷ 9 ∷ 10 ∷ 17 ∷ []) || fromTo n 20 25 || fromTo n 30 35
 
 unfoldable pub seenPlace : ℕ → Bool
 unfolding oneOf
-seenPlace n = oneOf n seenPoints
+seenPlace n = oneOf n (21 ∷ 22 ∷ 23 ∷ 25 ∷ 31 ∷ 32 ∷ 33 ∷ 35 ∷ 41 ∷ 42 ∷ 43 ∷ 45 ∷ [])
 
 unfoldable pub candidatePlace : ℕ → Bool
 unfolding oneOf
-candidatePlace n = oneOf n candidatePoints
+candidatePlace n = oneOf n (22 ∷ 23 ∷ 32 ∷ 33 ∷ 42 ∷ 43 ∷ [])
 
 unfoldable pub candidateSpinPlace : ℕ → Bool
 unfolding oneOf
-candidateSpinPlace n = oneOf n candidateSpinPoints
+candidateSpinPlace n = oneOf n (23 ∷ 33 ∷ 43 ∷ [])
 
 -- a port whose working values are 0 wherever they have no place at its point
 unfoldable pub settled : Port → Port

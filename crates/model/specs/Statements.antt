@@ -13,7 +13,8 @@ use Rattle.model.specs.Mask.{stands, joined, alone, added}
 use Rattle.model.specs.Ring.{next, distance}
 use Rattle.model.specs.Points.{p11, pointOf}
 use Rattle.model.specs.Good.{good}
-use Rattle.model.specs.Event.{numberOf, enter, stepping, crash, free, event, fresh}
+use Rattle.model.specs.Cost.{free}
+use Rattle.model.specs.Event.{numberOf, enter, stepping, crash, event, fresh}
 use Rattle.model.specs.Run.{Order, order, after, ran, reached, Critical, run, runAnswers, done, stepsAt, passedOver, passageCost, stepless}
 use Rattle.model.specs.Paid.{paidEvent}
 use Rattle.model.specs.Laws.Mask.{set-own, set-other, cleared-own, cleared-other, joined-own, joined-other, alone-own, alone-other}

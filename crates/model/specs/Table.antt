@@ -73,9 +73,12 @@ portAt t k = getD (t .ports) k noPort
 abbrev pub copiesAt : Table → ℕ → Copies
 copiesAt t k = getD (t .copies) k noCopies
 
--- the table with another record at port k
+-- the table with another record at port k, or other copies of its words
 abbrev pub putPort : Table → ℕ → Port → Table
 putPort t k p = table (set (t .ports) k p) (t .copies) (t .shared)
+
+abbrev pub putCopies : Table → ℕ → Copies → Table
+putCopies t k c = table (t .ports) (set (t .copies) k c) (t .shared)
 
 -- spin n of a port is its latest: number = made, made not 0
 abbrev pub latest : Port → ℕ → Bool

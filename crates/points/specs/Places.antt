@@ -17,9 +17,9 @@ use Rattle.model.specs.declared.Kind.the-variants.{Read, Write, Add, Swap}
 use Rattle.model.specs.declared.Kind.the-variants as Kinds
 use Rattle.model.specs.Laws.Tests.{every-below}
 use Rattle.model.specs.Mask.{stands}
-use Rattle.model.specs.Points.{none, pointOf, oneOf, ownPlace, seenPlace, candidatePlace, candidateSpinPlace, seenPoints, candidatePoints, candidateSpinPoints, points}
+use Rattle.model.specs.Points.{none, pointOf, oneOf, ownPlace, seenPlace, candidatePlace, candidateSpinPlace, points}
 use Rattle.model.specs.Good.{everyBelow, named}
-use Rattle.model.specs.Cost.{touch, untouched, touchAt}
+use Rattle.model.specs.Parts.Charges.{touch, untouched, touchAt}
 
 both : {A : Type 0} (a b : Bool) → (a && b) ≡ true → (a ≡ true → b ≡ true → A) → A
 both true b p q = q refl p
@@ -68,15 +68,15 @@ own-table =
 
 pub seen-table : (n : ℕ) → (ltb n 46 && stands 50626975236096 n) ≡ seenPlace n
 unfolding seenPlace everyBelow stands all46
-seen-table = table 50626975236096 seenPlace refl (λ n h. beyond seenPoints n h refl)
+seen-table = table 50626975236096 seenPlace refl (λ n h. beyond (21 ∷ 22 ∷ 23 ∷ 25 ∷ 31 ∷ 32 ∷ 33 ∷ 35 ∷ 41 ∷ 42 ∷ 43 ∷ 45 ∷ []) n h refl)
 
 pub candidate-table : (n : ℕ) → (ltb n 46 && stands 13207037018112 n) ≡ candidatePlace n
 unfolding candidatePlace everyBelow stands all46
-candidate-table = table 13207037018112 candidatePlace refl (λ n h. beyond candidatePoints n h refl)
+candidate-table = table 13207037018112 candidatePlace refl (λ n h. beyond (22 ∷ 23 ∷ 32 ∷ 33 ∷ 42 ∷ 43 ∷ []) n h refl)
 
 pub candidate-spin-table : (n : ℕ) → (ltb n 46 && stands 8804691345408 n) ≡ candidateSpinPlace n
 unfolding candidateSpinPlace everyBelow stands all46
-candidate-spin-table = table 8804691345408 candidateSpinPlace refl (λ n h. beyond candidateSpinPoints n h refl)
+candidate-spin-table = table 8804691345408 candidateSpinPlace refl (λ n h. beyond (23 ∷ 33 ∷ 43 ∷ []) n h refl)
 
 -- the word and the kind of access that an entry of the code's table of touches stands for
 unfoldable pub cellOf : ℕ → Cell

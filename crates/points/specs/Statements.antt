@@ -7,7 +7,7 @@ use Rattle.model.specs.declared.Port.{Port}
 use Rattle.model.specs.declared.Touch.{Touch}
 use Rattle.model.specs.Mask.{stands}
 use Rattle.model.specs.Points.{pointOf, settled}
-use Rattle.model.specs.Cost.{touchAt}
+use Rattle.model.specs.Parts.Charges.{touchAt}
 use Rattle.model.specs.Statements.{one}
 
 pub has-one : (places n : ℕ) (r s : Bool) → r ≡ (ltb n 46 && stands places n) → s ≡ (ltb n 46 && stands places n) → r ≡ s

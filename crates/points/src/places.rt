@@ -10,7 +10,7 @@ ghost use lib.Dec.{ltb};
 ghost use Rattle.model.specs.Mask.{stands};
 ghost use Rattle.model.specs.Points as Points;
 ghost use Rattle.points.specs.Places.{cellOf, kindOf};
-ghost use Rattle.model.specs.Cost as Cost;
+ghost use Rattle.model.specs.Parts.Charges as Charges;
 
 // One past the highest point.
 const POINTS: u8 = 46;
@@ -126,7 +126,7 @@ fn kind_of(n: u8) -> Kind
 
 // Which word point n touches, and how.
 pub fn touch_at(n: u8) -> Touch
-    ensures { λ r. ⌜ r ≡ Cost.touchAt (Points.pointOf n) ⌝ }
+    ensures { λ r. ⌜ r ≡ Charges.touchAt (Points.pointOf n) ⌝ }
 {
     if n < POINTS {
         let entry = TOUCHES[n as usize];

@@ -10,7 +10,8 @@ use Rattle.model.specs.declared.Work.{Work}
 use Rattle.model.specs.declared.Shared.{Shared}
 use Rattle.model.specs.declared.Table.{Table}
 use Rattle.model.specs.Table.{room, portAt, copiesAt}
-use Rattle.model.specs.Good.{workGood, sizeGood, sharedGood, placeRules, placeGood, everyBelow, good}
+use Rattle.model.specs.Good.{workGood, sizeGood, sharedGood, placeGood, everyBelow, good}
+use Rattle.model.specs.Parts.Rules.{placeRules}
 
 -- made of a seen owner or a candidate matters only where that is below d
 work-made : (d point made a a′ b b′ : ℕ) (w : Work) → (w .seenowner < d → a ≡ a′) → (w .candidate < d → b ≡ b′)

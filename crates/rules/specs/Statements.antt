@@ -6,7 +6,8 @@ use Rattle.model.specs.declared.Table.{Table}
 use Rattle.model.specs.declared.Port.{Port}
 use Rattle.model.specs.declared.Copies.{Copies}
 use Rattle.model.specs.declared.Shared.{Shared}
-use Rattle.model.specs.Good.{sizeGood, sharedGood, placeRules, good}
+use Rattle.model.specs.Good.{sizeGood, sharedGood, good}
+use Rattle.model.specs.Parts.Rules.{placeRules}
 use Rattle.model.specs.Statements.{one}
 
 pub size-good-one : (d : ℕ) (r s : Bool) → r ≡ sizeGood d → s ≡ sizeGood d → r ≡ s

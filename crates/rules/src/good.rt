@@ -10,6 +10,7 @@ ghost use mathlib.Core.Path.{_≡_};
 ghost use Prim.Native.Nat.{_<_};
 ghost use Rattle.model.specs.Table.{room};
 ghost use Rattle.model.specs.Good as Good;
+ghost use Rattle.model.specs.Parts.Rules as Rules;
 
 // Bit n stands where n is a point.
 const NAMED: u64 = 127 | 4095 << 8 | 63 << 20 | 63 << 30 | 63 << 40;
@@ -110,7 +111,7 @@ fn port_empty(p: Port, c: Copies) -> bool
 
 // The rules for place i of the table, with made of the port's seen owner and of its candidate.
 pub fn place_good(s: Shared, i: u64, p: Port, c: Copies, seenmade: u16, candidatemade: u16) -> bool
-    ensures { λ r. ⌜ r ≡ Good.placeRules s i p c seenmade candidatemade ⌝ }
+    ensures { λ r. ⌜ r ≡ Rules.placeRules s i p c seenmade candidatemade ⌝ }
 {
     let d = s.d;
     if i < d {

@@ -1,15 +1,16 @@
 use borrow.Author.Needs.{needs}
-use Rattle.model.specs.Laws.Charges.{charge-parts}
+use Rattle.model.specs.Parts.Charges.{charge}
 use Rattle.costs.proofs.charge.Statement.{statement}
 use Rattle.costs.proofs.charge.Tie as tie
 
 returns : tie.Need-returns
-returns c = rw (charge-parts _ _ _ _ _ _, ← (c .before .old .ensures), c .if1 .taken, c .before .before .distributed .ensures)
+unfolding charge
+returns c = rw (← (c .before .old .ensures), c .if1 .taken, c .before .before .distributed .ensures)
 
 returns-2 : tie.Need-returns-2
+unfolding charge
 returns-2 c =
     rw (
-      charge-parts _ _ _ _ _ _,
       ← (c .before .before .before .before .before .before .old .ensures),
       c .before .before .before .before .before .if1 .left,
       c .before .before .put-shared .ensures,

@@ -13,7 +13,7 @@ use Rattle.model.specs.declared.Copies.{Copies}
 use Rattle.model.specs.declared.Table.{Table}
 use Rattle.model.specs.Table.{room, most, noPort, noCopies, portAt, copiesAt}
 use Rattle.model.specs.Mask.{within}
-use Rattle.model.specs.Good.{everyBelow, named, sizeGood, sharedGood, portEmpty, placeRules, placeGood, good}
+use Rattle.model.specs.Good.{everyBelow, named, sizeGood, sharedGood, portEmpty, placeGood, good}
 use Rattle.model.specs.Laws.Tests.{conjunct, every-below}
 use Rattle.model.specs.Laws.Mask.{within-lt}
 use Rattle.model.specs.Laws.Rules.{shared-rules, port-rules}
@@ -123,7 +123,7 @@ module _ (t : Table) (g : good t ≡ true) where
       )
 
   empty-place : (k : ℕ) → t .shared .d ≤ k → k < room → portEmpty (portAt t k) (copiesAt t k) ≡ true
-  unfolding good placeGood placeRules
+  unfolding good placeGood
   empty-place k h l =
       let places = and-eq-true-iff (sizeGood (t .shared .d) && sharedGood (t .shared) _) (everyBelow room (placeGood t)) .0 g .1 in
       rw (le-ltb k (t .shared .d) h) at (every-below room (placeGood t) places k l)

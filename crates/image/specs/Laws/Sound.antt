@@ -17,7 +17,8 @@ use Rattle.model.specs.declared.Answer.the-variants.{Done, BadTable, BadImage}
 use Rattle.model.specs.Table.{room, noPort, noCopies, portAt, copiesAt, freshTable}
 use Rattle.model.specs.Event.{fresh}
 use Rattle.model.specs.Laws.Kept.{made-good}
-use Rattle.model.specs.Good.{everyBelow, sizeGood, sharedGood, portEmpty, placeRules, placeGood, good}
+use Rattle.model.specs.Good.{everyBelow, sizeGood, sharedGood, portEmpty, placeGood, good}
+use Rattle.model.specs.Parts.Rules.{placeRules}
 use Rattle.rules.specs.Check.{place-turn}
 use Rattle.layout.specs.Bytes.{sum, unpack, unpacks}
 use Rattle.layout.specs.Layout.{portWidths, copiesWidths, sharedOf, portOf, copiesOf, portPlace, copiesPlace}
@@ -96,7 +97,7 @@ module _ (d : ℕ) (bs : List ℕ) where
 
   -- places at or above d are good
   place-above : (i : ℕ) → d ≤ i → placeGood (held d bs) i ≡ true
-  unfolding placeGood placeRules portEmpty
+  unfolding placeGood portEmpty
   place-above i h = rw (d-held, le-ltb i d h, port-above i h, copies-above i h)
 
   pub shared-held : 1 ≤ d → sharedIn d bs ≡ held d bs .shared

@@ -18,10 +18,9 @@ use Rattle.model.specs.Table.{room, Sized, noPort, noCopies, portAt, cop
 use Rattle.model.specs.Points.{settled}
 use Rattle.model.specs.Good.{good}
 use Rattle.model.specs.Step.{withValue}
-use Rattle.model.specs.Cost.{home, charge}
-use Rattle.model.specs.Event.{touchOf, homeOf, moveOf, sharedAfter, chargeOf, marks, marked, stepped}
+use Rattle.model.specs.Parts.Charges.{home, charge, old, putShared}
+use Rattle.model.specs.Parts.Steps.{touchOf, homeOf, moveOf, sharedAfter, chargeOf, marks, marked, stepped}
 use Rattle.model.specs.Run.{Order, after}
-use Rattle.model.specs.Laws.Charges.{old, putShared, charge-parts}
 use Rattle.model.specs.Laws.Tests.{split}
 use Rattle.model.specs.Laws.Rules.{port-rules}
 use Rattle.model.specs.Laws.Cases.{after-case}
@@ -69,10 +68,9 @@ put-rest SeenSpin m s = refl
 
 charge-rest : (u : Touch) (k : ℕ) (w : Work) (q : Port) (s : Shared) (c : Copies)
     → charge u k w q s c .shared ≡ withCopies s (charge u k w q s c .shared)
+unfolding charge
 charge-rest u k w q s c =
-    rw (charge-parts u k w q s c) (
     split (λ (r : Charge). r .shared ≡ withCopies s (r .shared)) (old (u .cell) w q) _ _ (λ e. refl) (λ e. put-rest (u .cell) _ s)
-    )
 
 -- what a step leaves but for the ports, and what it costs: ACTIVE and the word as the move has them, and the number of ports as it was
 pub record StepAfter (t : Table) (k : ℕ) : Type 0 where

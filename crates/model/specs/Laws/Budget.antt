@@ -10,8 +10,9 @@ use Rattle.model.specs.declared.View.{View}
 use Rattle.model.specs.Table.{CS, EXIT, portAt, copiesAt, latest, readSpin}
 use Rattle.model.specs.Mask.{stands}
 use Rattle.model.specs.Points.{Tens, two, three, four, Point, none, p0, p1, p2, p3, p4, p5, p6, p8, p9, p10, p11, p12, p13, p14, p15, p16, p17, p18, p19, x0, x1, x2, x3, x4, x5, tens, back, pointOf}
-use Rattle.model.specs.Step.{up, bit, unasked, step}
-use Rattle.model.specs.Cost.{untouched, touchAt}
+use Rattle.model.specs.Step.{unasked}
+use Rattle.model.specs.Parts.Moves.{up, bit, step}
+use Rattle.model.specs.Parts.Charges.{untouched, touchAt}
 use Rattle.model.specs.Laws.Tests.{split}
 
 -- what reading the own spin at 8 can still take, where its value is 1 or not, and the port has a copy of it or not
@@ -152,7 +153,7 @@ module _ (v : View) (copy : Bool) (c b : ℕ) where
   either {m} e i j = split (λ (n : ℕ). c + budgetAt b (pointOf n) ≤ m) e i j
 
   -- x1 where ACTIVE is 0
-  unasked-spends : (x : Tens) → c ≤ 1 → c + budgetAt b (pointOf (unasked x v .point)) ≤ 5 + onward x
+  unasked-spends : (x : Tens) → c ≤ 1 → c + budgetAt b (pointOf (unasked x (v .k) (v .own) .point)) ≤ 5 + onward x
   unfolding unasked budgetAt
   unasked-spends two h = omega arith
   unasked-spends three h = omega arith

@@ -14,9 +14,12 @@ use Rattle.model.specs.declared.Answer.{Answer}
 use Rattle.model.specs.declared.Answer.the-variants.{Done, BadTable, NoSuchPort}
 use Rattle.model.specs.Table.{room, most, noWork, portAt, putPort}
 use Rattle.model.specs.Good.{good}
+use Rattle.model.specs.Cost.{free}
 use Rattle.model.specs.Step.{at, withFlag, withWork}
-use Rattle.model.specs.Event.{numberOf, enter, stepping, crash, callOff, leave, firstOf, refusals, refusal, ordered, stepped, free, carried, event}
+use Rattle.model.specs.Event.{numberOf, enter, stepping, crash, callOff, leave, firstOf, refusals, refusal, ordered, carried, event}
+use Rattle.model.specs.Parts.Steps.{stepped}
 use Rattle.model.specs.Run.{Order, order, answered, after}
+use Rattle.model.specs.Laws.Stepped.{carried-parts}
 use Rattle.model.specs.Laws.Rules.{shared-rules}
 
 -- an event that is no step and is not refused at port p, with what becomes of the port
@@ -117,8 +120,8 @@ module _ (t : Table) (o : Order) where
       ≡ cond r
       (cond s (stepped t (o .port)) (free Done (putPort t (o .port) (ordered (o .event) (portAt t (o .port))))))
       (free (refusal t (o .port) (o .event)) t)
-  unfolding event carried
-  shape r s er es = rw (er, es)
+  unfolding event
+  shape r s er es = rw (carried-parts t (o .port) (o .event), er, es)
 
   -- what an answer that is not DONE, and no refusal, say of the order
   refused-by : (a : Answer) → eqb (numberOf a) 0 ≡ false → answered t o ≡ free a t → Refused t o

@@ -10,8 +10,10 @@ use Rattle.model.specs.declared.Table.{Table}
 use Rattle.model.specs.Table.{room, portAt, Sized}
 use Rattle.model.specs.Points.{Tens, two, three, four, Point, none, p0, p1, p2, p3, p4, p5, p6, p8, p9, p10, p11, p12, p13, p14, p15, p16, p17, p18, p19, x0, x1, x2, x3, x4, x5, tens, pointOf, settled}
 use Rattle.model.specs.Good.{named}
-use Rattle.model.specs.Step.{at, withFlag, withValue, withWork, unasked, step}
-use Rattle.model.specs.Event.{ordered, moveOf, sharedAfter, stepped}
+use Rattle.model.specs.Step.{at, withFlag, withValue, withWork, unasked}
+use Rattle.model.specs.Event.{ordered}
+use Rattle.model.specs.Parts.Moves.{step}
+use Rattle.model.specs.Parts.Steps.{moveOf, sharedAfter, stepped}
 use Rattle.model.specs.Run.{Order, after}
 use Rattle.model.specs.Laws.Tests.{split}
 use Rattle.model.specs.Laws.Cases.{Allowed, enters, crashes, callsOff, leaves, after-case}
@@ -42,7 +44,7 @@ module _ (t : Table) (k g : ℕ) where
   MoveKept q =
       Kept t k (numberOfPoint q) (step q (sightOf t k g) .own) (sharedAfter (step q (sightOf t k g)) (t .shared))
 
-  unasked-kept : (x : Tens) → Kept t k (tens x + 1) (unasked x (sightOf t k g)) (t .shared)
+  unasked-kept : (x : Tens) → Kept t k (tens x + 1) (unasked x k (portAt t k)) (t .shared)
   unfolding unasked
   unasked-kept two = search
   unasked-kept three = search

@@ -4,12 +4,11 @@ use Rattle.model.specs.Table.{room, most, readSpin, freshTable}
 use Rattle.model.specs.Mask.{stands, within, joined, alone, added}
 use Rattle.model.specs.Ring as Ring
 use Rattle.model.specs.Points.{tens, back, oneOf, ownPlace, seenPlace, candidatePlace, candidateSpinPlace, settled}
-use Rattle.model.specs.Good.{everyBelow, named, sizeGood, sharedGood, fieldsGood, workGood, copiesGood, portEmpty, placeRules, placeGood, good}
-use Rattle.model.specs.Step.{same, swapped, released, granted, unasked, step}
-use Rattle.model.specs.Cost.{touchAt, charge}
-use Rattle.model.specs.Event.{firstOf, refusals, refusal, ordered, touchOf, homeOf, viewOf, moveOf, chargeOf, marked, stepped, carried, event, fresh}
+use Rattle.model.specs.Good.{everyBelow, named, sizeGood, sharedGood, fieldsGood, workGood, copiesGood, portEmpty, placeGood, good}
+use Rattle.model.specs.Step.{same, swapped, unasked, step}
+use Rattle.model.specs.Event.{firstOf, refusals, refusal, ordered, carried, event, fresh}
 use Rattle.model.specs.Run.{ran, done, stepsAt, grants, passedOver, passageCost, stepless}
 
 unfoldable pub everything : ℕ
-unfolding room most readSpin freshTable stands within joined alone added Ring.after Ring.walk Ring.next tens back oneOf ownPlace seenPlace candidatePlace candidateSpinPlace settled everyBelow named sizeGood sharedGood fieldsGood workGood copiesGood portEmpty placeRules placeGood good same swapped released granted unasked step touchAt charge firstOf refusals refusal ordered touchOf homeOf viewOf moveOf chargeOf marked stepped carried event fresh ran done stepsAt grants passedOver passageCost stepless
+unfolding room most readSpin freshTable stands within joined alone added Ring.after Ring.walk Ring.next tens back oneOf ownPlace seenPlace candidatePlace candidateSpinPlace settled everyBelow named sizeGood sharedGood fieldsGood workGood copiesGood portEmpty placeGood good same swapped unasked step firstOf refusals refusal ordered carried event fresh ran done stepsAt grants passedOver passageCost stepless
 everything = 0

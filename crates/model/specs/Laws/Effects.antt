@@ -12,7 +12,8 @@ use Rattle.model.specs.declared.Port.{Port}
 use Rattle.model.specs.declared.View.{View}
 use Rattle.model.specs.Table.{CS, EXIT, word, readSpin}
 use Rattle.model.specs.Points.{Tens, two, three, four, Point, none, p0, p1, p2, p3, p4, p5, p6, p8, p9, p10, p11, p12, p13, p14, p15, p16, p17, p18, p19, x0, x1, x2, x3, x4, x5, tens, back, oneOf, seenPlace, settled}
-use Rattle.model.specs.Step.{at, withSeen, withWork, up, bit, same, swapped, released, granted, unasked, step}
+use Rattle.model.specs.Step.{at, withSeen, withWork, same, swapped, unasked}
+use Rattle.model.specs.Parts.Moves.{up, bit, released, granted, step}
 use Rattle.model.specs.Laws.Tests.{conjunct, split}
 use Rattle.model.specs.Laws.Own.{numberOfPoint}
 use Rattle.model.specs.Laws.Life.{Leaving, StandingOf}
@@ -99,7 +100,7 @@ module _ (v : View) where
       (λ e. stays refl)
 
   -- x1 where ACTIVE is 0
-  unasked-effect : (x : Tens) → Effect v (settled (unasked x v)) (v .word)
+  unasked-effect : (x : Tens) → Effect v (settled (unasked x (v .k) (v .own))) (v .word)
   unfolding unasked setting
   unasked-effect two = quiet _ 24 refl
   unasked-effect three = quiet _ 32 refl

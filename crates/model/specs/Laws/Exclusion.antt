@@ -16,9 +16,13 @@ use Rattle.model.specs.declared.Answer.the-variants.{Done}
 use Rattle.model.specs.Table.{CS, noWork, portAt, putPort, Sized}
 use Rattle.model.specs.Points.{p0, p1, pointOf, oneOf, settled}
 use Rattle.model.specs.Good.{good}
-use Rattle.model.specs.Step.{at, withValue, withWork, step}
-use Rattle.model.specs.Event.{stepping, crash, firstOf, refusals, refusal, ordered, stepped, free, carried, event}
+use Rattle.model.specs.Cost.{free}
+use Rattle.model.specs.Step.{at, withValue, withWork}
+use Rattle.model.specs.Event.{stepping, crash, firstOf, refusals, refusal, ordered, carried, event}
+use Rattle.model.specs.Parts.Moves.{step}
+use Rattle.model.specs.Parts.Steps.{stepped}
 use Rattle.model.specs.Run.{Order, order, after, ran, done, stepsAt, stepless}
+use Rattle.model.specs.Laws.Stepped.{carried-parts}
 use Rattle.model.specs.Laws.Rules.{shared-rules}
 use Rattle.model.specs.Laws.Grants.{stepped-done}
 use Rattle.model.specs.Laws.Cases.{Allowed, enters, crashes, callsOff, leaves, Stepped, after-case}
@@ -74,12 +78,12 @@ keeps-critical t k o z h =
 -- a crash and a step at 1 are carried out
 module _ (t : Table) (k : ℕ) (g : good t ≡ true) (l : k < t .shared .d) where
   crash-carried : (portAt t k .point ≡ 0 → ⊥) → event t k crash ≡ free Done (putPort t k (at 1 (withWork noWork (portAt t k))))
-  unfolding event carried refusal refusals firstOf ordered
-  crash-carried n = rw (g, lt-leb (t .shared .d) k l, ne-eqb (portAt t k .point) 0 n)
+  unfolding event refusal refusals firstOf ordered
+  crash-carried n = rw (carried-parts t k crash, g, lt-leb (t .shared .d) k l, ne-eqb (portAt t k .point) 0 n)
 
   step-carried : portAt t k .point ≡ 1 → event t k stepping ≡ stepped t k
-  unfolding event carried refusal refusals firstOf
-  step-carried e = rw (g, lt-leb (t .shared .d) k l, e)
+  unfolding event refusal refusals firstOf
+  step-carried e = rw (carried-parts t k stepping, g, lt-leb (t .shared .d) k l, e)
 
 -- an order that is no step of a port leaves it at 1
 ordered-one : (e : ℕ) (p : Port) → Allowed e p → p .point ≡ 1 → ordered e p .point ≡ 1

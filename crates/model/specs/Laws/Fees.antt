@@ -24,11 +24,12 @@ use Rattle.model.specs.Table.{room, portAt, copiesAt, latest, Sized}
 use Rattle.model.specs.Mask.{stands}
 use Rattle.model.specs.Points.{Tens, Point, none, p0, p1, p2, p3, p4, p5, p6, p8, p9, p10, p11, p12, p13, p14, p15, p16, p17, p18, p19, x0, x1, x2, x3, x4, x5, pointOf}
 use Rattle.model.specs.Good.{good}
-use Rattle.model.specs.Step.{step}
-use Rattle.model.specs.Cost.{untouched, touchAt, home, cached, charge}
-use Rattle.model.specs.Event.{numberOf, stepping, refusal, touchOf, homeOf, viewOf, moveOf, sharedAfter, copiesAfter, chargeOf, stepped, carried, event}
+use Rattle.model.specs.Event.{numberOf, stepping, refusal, carried, event}
+use Rattle.model.specs.Parts.Moves.{step}
+use Rattle.model.specs.Parts.Charges.{untouched, touchAt, home, cached, charge, old, distributed}
+use Rattle.model.specs.Parts.Steps.{touchOf, homeOf, viewOf, moveOf, sharedAfter, copiesAfter, chargeOf, stepped}
+use Rattle.model.specs.Laws.Stepped.{carried-parts}
 use Rattle.model.specs.Laws.Tests.{split}
-use Rattle.model.specs.Laws.Charges.{old, distributed, charge-parts}
 use Rattle.model.specs.Laws.Mask.{joined-own}
 use Rattle.model.specs.Laws.Rules.{shared-rules}
 use Rattle.model.specs.Laws.Own.{home-at}
@@ -61,12 +62,11 @@ cell-cost SeenSpin k w = other-cost (w .seenowner) k
 
 pub charge-cost : (u : Touch) (k : ℕ) (w : Work) (q : Port) (s : Shared) (c : Copies)
     → (charge u k w q s c .cached ≤ 1) × (charge u k w q s c .distributed ≤ 1)
+unfolding charge
 charge-cost u k w q s c =
-    rw (charge-parts u k w q s c) (
     split (λ (r : Charge). (r .cached ≤ 1) × (r .distributed ≤ 1)) (old (u .cell) w q) _ _
     (λ e. (omega arith, cell-cost (u .cell) k w))
     (λ e. (kind-cost (u .kind) k _, cell-cost (u .cell) k w))
-    )
 
 -- nor does a step, an event that is carried out, nor any event
 step-cost : (t : Table) (k : ℕ) → (stepped t k .cached ≤ 1) × (stepped t k .distributed ≤ 1)
@@ -80,8 +80,7 @@ pub nothing : (0 ≤ 1) × (0 ≤ 1)
 nothing = (omega arith, omega arith)
 
 pub carried-cost : (t : Table) (k e : ℕ) → Small (carried t k e)
-unfolding carried
-carried-cost t k e = split Small (eqb e stepping) _ _ (λ s. step-cost t k) (λ s. nothing)
+carried-cost t k e = rw (carried-parts t k e) (split Small (eqb e stepping) _ _ (λ s. step-cost t k) (λ s. nothing))
 
 pub event-cost : (t : Table) (k e : ℕ) → (event t k e .cached ≤ 1) × (event t k e .distributed ≤ 1)
 unfolding event

@@ -16,9 +16,8 @@ use Rattle.model.specs.declared.Kind.{Kind}
 use Rattle.model.specs.declared.Kind.the-variants.{Read, Write, Add, Swap}
 use Rattle.model.specs.declared.Kind.the-variants as Kinds
 use Rattle.model.specs.Table.{latest}
-use Rattle.model.specs.Cost.{copied, charge}
+use Rattle.model.specs.Parts.Charges.{copied, charge, old, holders, putShared, putCopies}
 use Rattle.model.specs.Laws.Tests.{split}
-use Rattle.model.specs.Laws.Charges.{old, holders, putShared, putCopies, charge-parts}
 use Rattle.model.specs.Laws.Mask.{joined-below, alone-below}
 use Rattle.model.specs.Laws.Sound.{SharedCopies, PortCopies}
 
@@ -54,12 +53,11 @@ module _ (d : ℕ) (s : Shared) (c : Copies) (a : SharedCopies d s) (b : PortCop
 
   pub charge-below : (u : Touch) (k : ℕ) (w : Work) (q : Port) → k < d
       → SharedCopies d (charge u k w q s c .shared) × PortCopies d (charge u k w q s c .copies)
+  unfolding charge
   charge-below u k w q h =
-      rw (charge-parts u k w q s c) (
       split (λ (r : Charge). SharedCopies d (r .shared) × PortCopies d (r .copies)) (old (u .cell) w q) _ _
       (λ e. (a, b))
       (λ e. put-below (u .cell) _ (copied-below (u .kind) h (holders-below (u .cell))))
-      )
 
 -- no spin is the latest of a port that has made none; so a touch leaves the set of its spin as it was
 none-latest : (q : Port) (n : ℕ) → q .made ≡ 0 → latest q n ≡ false
@@ -76,7 +74,6 @@ put-spin CandidateGo m w q c z o = refl
 put-spin SeenSpin m w q c z o = absurd (true≢false (rw (none-latest q (w .seenspin) z) at o))
 
 pub charge-spin : (u : Touch) (k : ℕ) (w : Work) (q : Port) (s : Shared) (c : Copies) → q .made ≡ 0 → charge u k w q s c .copies .spin ≡ c .spin
+unfolding charge
 charge-spin u k w q s c z =
-    rw (charge-parts u k w q s c) (
     split (λ (r : Charge). r .copies .spin ≡ c .spin) (old (u .cell) w q) _ _ (λ e. refl) (λ e. put-spin (u .cell) _ w q c z e)
-    )

@@ -12,9 +12,10 @@ use Rattle.model.specs.Table.{most, CS, EXIT, portAt, readSpin}
 use Rattle.model.specs.Mask.{stands}
 use Rattle.model.specs.Points.{Tens, two, three, four, Point, none, p0, p1, p2, p3, p4, p5, p6, p8, p9, p10, p11, p12, p13, p14, p15, p16, p17, p18, p19, x0, x1, x2, x3, x4, x5, tens, back, pointOf, oneOf, candidateSpinPlace}
 use Rattle.model.specs.Good.{named, good}
-use Rattle.model.specs.Step.{at, up, bit, same, swapped, unasked, released, granted, step}
-use Rattle.model.specs.Cost.{touchAt}
-use Rattle.model.specs.Event.{homeOf, moveOf}
+use Rattle.model.specs.Step.{at, same, swapped, unasked}
+use Rattle.model.specs.Parts.Moves.{up, bit, released, granted, step}
+use Rattle.model.specs.Parts.Charges.{touchAt}
+use Rattle.model.specs.Parts.Steps.{homeOf, moveOf}
 use Rattle.model.specs.Laws.Tests.{split}
 use Rattle.model.specs.Laws.Mask.{set-other, set-below, cleared-other, cleared-below}
 use Rattle.model.specs.Laws.Ring.{next-below}
@@ -98,7 +99,7 @@ module _ (t : Table) (k : ℕ) (s : Sound t) (b : Bounds (t .shared .d) (madeOf 
       (ap candidateSpinPlace (number _ (x1 x) (r .point) e)
       ∙ each (λ (n : ℕ). candidateSpinPlace n ≡ false) (λ x. tens x + 1) refl refl refl x)
 
-  by-tens : (x : Tens) → k < t .shared .d → portAt t k .work .candidatespin ≡ 0 → Moved t k (unasked x seen) (t .shared .active) (t .shared .word)
+  by-tens : (x : Tens) → k < t .shared .d → portAt t k .work .candidatespin ≡ 0 → Moved t k (unasked x (seen .k) (seen .own)) (t .shared .active) (t .shared .word)
   unfolding unasked oneOf named
   by-tens two h z = goes 24 (search)
   by-tens three h z = leads _ (omega arith) (search)

@@ -11,7 +11,7 @@ use Rattle.model.specs.Table.{room, most, portAt, copiesAt, Sized}
 use Rattle.model.specs.Mask.{stands}
 use Rattle.model.specs.Points.{settled}
 use Rattle.model.specs.Good.{portEmpty, good}
-use Rattle.model.specs.Event.{touchOf, homeOf, moveOf, copiesAfter, chargeOf, stepped}
+use Rattle.model.specs.Parts.Steps.{touchOf, homeOf, moveOf, copiesAfter, chargeOf, stepped}
 use Rattle.model.specs.Laws.Tests.{split}
 use Rattle.model.specs.Laws.After.{step-after, copies-home, copies-other, home-below}
 use Rattle.model.specs.Laws.Ports.{Left, unset, setOne, own-left, other-left, left-rest}

@@ -14,8 +14,10 @@ use Rattle.model.specs.declared.View.{View}
 use Rattle.model.specs.Table.{room, CS, EXIT, ABORT, noPort, portAt, putPort, latest, readSpin, freshTable, Sized}
 use Rattle.model.specs.Points.{Tens, two, three, four, Point, none, p0, p1, p2, p3, p4, p5, p6, p8, p9, p10, p11, p12, p13, p14, p15, p16, p17, p18, p19, x0, x1, x2, x3, x4, x5, tens, back, pointOf, ownPlace, settled}
 use Rattle.model.specs.Good.{named}
-use Rattle.model.specs.Step.{at, withFlag, withValue, withWork, up, bit, unasked, step}
-use Rattle.model.specs.Event.{moveOf, ordered, stepped}
+use Rattle.model.specs.Step.{at, withFlag, withValue, withWork, unasked}
+use Rattle.model.specs.Event.{ordered}
+use Rattle.model.specs.Parts.Moves.{up, bit, step}
+use Rattle.model.specs.Parts.Steps.{moveOf, stepped}
 use Rattle.model.specs.Run.{Order, after}
 use Rattle.model.specs.Laws.Tests.{split}
 use Rattle.model.specs.Laws.Rules.{port-rules}
@@ -127,7 +129,7 @@ module _ (v : View) (l : Life (v .own)) (known : v .own .status ≤ ABORT) where
       → Life (settled (at (cond b m n) (withWork w me)))
   either w b m n f g = to w (cond b m n) (split (Next me (w .own)) b m n f g)
 
-  unasked-life : (x : Tens) → PromotingOf x me → Life (settled (unasked x v))
+  unasked-life : (x : Tens) → PromotingOf x me → Life (settled (unasked x (v .k) (v .own)))
   unfolding unasked named ownPlace
   unasked-life two r = to _ 24 (refl, r)
   unasked-life three r = to _ 32 (refl, r)

@@ -12,8 +12,10 @@ use Rattle.model.specs.declared.Table.{Table}
 use Rattle.model.specs.Table.{room, Sized, portAt}
 use Rattle.model.specs.Mask.{stands}
 use Rattle.model.specs.Points.{two, three, four, p6, p15, tens, pointOf, oneOf}
-use Rattle.model.specs.Step.{withValue, step}
-use Rattle.model.specs.Event.{ordered, stepped}
+use Rattle.model.specs.Step.{withValue}
+use Rattle.model.specs.Event.{ordered}
+use Rattle.model.specs.Parts.Moves.{step}
+use Rattle.model.specs.Parts.Steps.{stepped}
 use Rattle.model.specs.Run.{Order, after, stepsAt}
 use Rattle.model.specs.Laws.Mask.{set-other, cleared-other, within-lt}
 use Rattle.model.specs.Laws.Rules.{shared-rules, port-rules}

@@ -10,10 +10,12 @@ use Rattle.model.specs.declared.Outcome.{Outcome}
 use Rattle.model.specs.declared.Answer.the-variants.{BadTable, NoSuchPort}
 use Rattle.model.specs.Table.{Sized, portAt}
 use Rattle.model.specs.Good.{sizeGood, good}
-use Rattle.model.specs.Event.{numberOf, firstOf, refusals, refusal, stepping, free, carried, event}
+use Rattle.model.specs.Cost.{free}
+use Rattle.model.specs.Event.{numberOf, firstOf, refusals, refusal, stepping, carried, event}
 use Rattle.model.specs.Run.{Order, after, ran, codes}
 use Rattle.model.specs.Paid.{placed, paidAnswer, paidEvent, paidRan, paidCodes}
 use Rattle.model.specs.Laws.Tests.{split}
+use Rattle.model.specs.Laws.Stepped.{carried-parts}
 use Rattle.model.specs.Laws.Rules.{shared-rules, port-rules}
 use Rattle.model.specs.Laws.After.{put-sized, step-sized, after-sized}
 use Rattle.model.specs.Laws.Fees.{Small, nothing, carried-cost}
@@ -21,11 +23,13 @@ use Rattle.model.specs.Laws.Kept.{good-after}
 
 -- such an order keeps the lengths
 pub paid-sized : (t : Table) (k e : ℕ) → Sized t → Sized (paidEvent t k e .table)
-unfolding paidEvent carried
+unfolding paidEvent
 paid-sized t k e s =
+    rw (carried-parts t k e) (
     split (λ (o : Outcome). Sized (o .table)) (eqb (numberOf (paidAnswer (t .shared) k e (portAt t k))) 0) _ _
     (λ n. split (λ (o : Outcome). Sized (o .table)) (eqb e stepping) _ _ (λ q. step-sized t k s) (λ q. put-sized t k _ s))
     (λ n. s)
+    )
 
 -- its costs are at most 1
 pub paid-cost : (t : Table) (k e : ℕ) → (paidEvent t k e .cached ≤ 1) × (paidEvent t k e .distributed ≤ 1)

@@ -15,7 +15,8 @@ use Rattle.model.specs.declared.Outcome.{Outcome}
 use Rattle.model.specs.declared.Answer.the-variants.{Done}
 use Rattle.model.specs.Table.{room, portAt, Sized}
 use Rattle.model.specs.Points.{p19, pointOf, settled}
-use Rattle.model.specs.Event.{numberOf, enter, stepping, crash, callOff, leave, ordered, viewOf, moveOf, stepped}
+use Rattle.model.specs.Event.{numberOf, enter, stepping, crash, callOff, leave, ordered}
+use Rattle.model.specs.Parts.Steps.{viewOf, moveOf, stepped}
 use Rattle.model.specs.Run.{Order, answered, after, done, passageCost}
 use Rattle.model.specs.Laws.Tests.{conjunct, split}
 use Rattle.model.specs.Laws.Cases.{Allowed, enters, crashes, callsOff, leaves, Stepped, Case, wasRefused, wasOrdered, wasStepped, cases, after-case}

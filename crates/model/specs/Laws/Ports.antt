@@ -14,9 +14,10 @@ use Rattle.model.specs.declared.Table.{Table}
 use Rattle.model.specs.declared.View.{View}
 use Rattle.model.specs.Table.{room, noPort, portAt, putPort, latest, Sized}
 use Rattle.model.specs.Points.{Tens, Point, none, p0, p1, p2, p3, p4, p5, p6, p8, p9, p10, p11, p12, p13, p14, p15, p16, p17, p18, p19, x0, x1, x2, x3, x4, x5, pointOf, settled}
-use Rattle.model.specs.Step.{withValue, step}
-use Rattle.model.specs.Cost.{touchAt}
-use Rattle.model.specs.Event.{touchOf, homeOf, moveOf, viewOf, marks, marked, stepped}
+use Rattle.model.specs.Step.{withValue}
+use Rattle.model.specs.Parts.Moves.{step}
+use Rattle.model.specs.Parts.Charges.{touchAt}
+use Rattle.model.specs.Parts.Steps.{touchOf, homeOf, moveOf, viewOf, marks, marked, stepped}
 use Rattle.model.specs.Laws.Tests.{split}
 use Rattle.model.specs.Laws.Own.{home-at}
 

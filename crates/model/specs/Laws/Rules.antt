@@ -9,7 +9,7 @@ use Rattle.model.specs.declared.Table.{Table}
 use Rattle.model.specs.Table.{room, most, ABORT, portAt, copiesAt}
 use Rattle.model.specs.Mask.{stands, within}
 use Rattle.model.specs.Points.{Tens, two, three, four, tens, oneOf, candidateSpinPlace}
-use Rattle.model.specs.Good.{everyBelow, named, sizeGood, sharedGood, fieldsGood, workGood, copiesGood, placeRules, placeGood, good}
+use Rattle.model.specs.Good.{everyBelow, named, sizeGood, sharedGood, fieldsGood, workGood, copiesGood, placeGood, good}
 use Rattle.model.specs.Laws.Tests.{conjunct, implied, every-below}
 
 -- what holds of the number of ports, of ACTIVE, of the word, and of their copy sets
@@ -85,7 +85,7 @@ portGood t k =
     && copiesGood (t .shared .d) (portAt t k .made) (copiesAt t k)
 
 pub port-good : (t : Table) (k : ℕ) → good t ≡ true → k < t .shared .d → portGood t k ≡ true
-unfolding good placeGood placeRules
+unfolding good placeGood
 port-good t k e h =
     let places = and-eq-true-iff (sizeGood (t .shared .d) && sharedGood (t .shared) _) (everyBelow room (placeGood t)) .0 e .1 in
     rw (lt-ltb k (t .shared .d) h) at (every-below room (placeGood t) places k (le-trans h (shared-rules t e .fits)))

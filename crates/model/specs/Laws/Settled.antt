@@ -8,26 +8,26 @@ use native.Mathlib.Omega.{arith}
 use lib.Dec.{eqb, ltb}
 use borrow.Author.Tests.{eqb-true}
 use Rattle.model.specs.declared.Port.{Port}
-use Rattle.model.specs.Points.{oneOf, seenPoints, candidatePoints, candidateSpinPoints, ownPlace, seenPlace, candidatePlace, candidateSpinPlace, settled}
+use Rattle.model.specs.Points.{oneOf, ownPlace, seenPlace, candidatePlace, candidateSpinPlace, settled}
 use Rattle.model.specs.Good.{implies}
 use Rattle.model.specs.Laws.Sound.{Bounds, Enters, Fit}
 
--- the points of a list are among those of another: a point of the first is one of the second
-among : List ℕ → List ℕ → Bool
-among [] ns = true
-among (m ∷ ms) ns = oneOf m ns && among ms ns
+-- a test passes for every point of a list: so it does for a point that is one of them
+all : (ℕ → Bool) → List ℕ → Bool
+all f [] = true
+all f (m ∷ ms) = f m && all f ms
 
-included : (n : ℕ) (ms ns : List ℕ) → among ms ns ≡ true → oneOf n ms ≡ true → oneOf n ns ≡ true
-unfolding among oneOf
-included n [] ns a e = absurd (false≢true e)
-included n (m ∷ ms) ns a e = go (eqb n m) refl e (included n ms ns (both .1))
+included : (n : ℕ) (ms : List ℕ) (f : ℕ → Bool) → all f ms ≡ true → oneOf n ms ≡ true → f n ≡ true
+unfolding all oneOf
+included n [] f a e = absurd (false≢true e)
+included n (m ∷ ms) f a e = go (eqb n m) refl e (included n ms f (both .1))
   where
-    both : (oneOf m ns ≡ true) × (among ms ns ≡ true)
-    both = and-eq-true-iff (oneOf m ns) (among ms ns) .0 a
+    both : (f m ≡ true) × (all f ms ≡ true)
+    both = and-eq-true-iff (f m) (all f ms) .0 a
 
-    go : (b : Bool) → eqb n m ≡ b → (b || oneOf n ms) ≡ true → (oneOf n ms ≡ true → oneOf n ns ≡ true) → oneOf n ns ≡ true
-    go true q e f = ap (λ (i : ℕ). oneOf i ns) (eqb-true n m q) ∙ both .0
-    go false q e f = f e
+    go : (b : Bool) → eqb n m ≡ b → (b || oneOf n ms) ≡ true → (oneOf n ms ≡ true → f n ≡ true) → f n ≡ true
+    go true q e g = ap f (eqb-true n m q) ∙ both .0
+    go false q e g = g e
 
 -- a working value that is kept where it has a place is at most what it was, and is 0 elsewhere
 kept-le : (b : Bool) (x : ℕ) → cond b x 0 ≤ x
@@ -52,12 +52,12 @@ kept-above false b s f h = refl
 -- so a settled record meets all rules
 pub settled-fit : (d : ℕ) (made : ℕ → ℕ) (bit : Bool) (p : Port) → Bounds d made p → Enters bit (p .point) (p .flag) (p .work .seenspin)
     → Fit d made bit (settled p)
-unfolding settled ownPlace seenPlace candidatePlace candidateSpinPlace among oneOf
+unfolding settled ownPlace seenPlace candidatePlace candidateSpinPlace all oneOf
 settled-fit d made bit p b e =
     let n = p .point in
     let w = p .work in
     let seen = kept-spin (seenPlace n) (seenPlace n) made (w .seenspin) (w .seenowner) (λ q. q) (b .seenspin) in
-    let inside = included n candidateSpinPoints candidatePoints refl in
+    let inside = included n (23 ∷ 33 ∷ 43 ∷ []) candidatePlace refl in
     let candidate = kept-spin (candidateSpinPlace n) (candidatePlace n) made (w .candidatespin) (w .candidate) inside (b .candidatespin) in
     record {
       bounds =
@@ -68,7 +68,7 @@ settled-fit d made bit p b e =
             idle = e .idle;
             clear = e .clear;
             set = e .set;
-            setting = kept-above _ _ _ (included n (25 ∷ 35 ∷ 45 ∷ []) seenPoints refl) (e .setting);
+            setting = kept-above _ _ _ (included n (25 ∷ 35 ∷ 45 ∷ []) seenPlace refl) (e .setting);
           };
       rests = search kept-rests;
     }

@@ -16,7 +16,7 @@ use Rattle.model.specs.declared.Table.{Table}
 use Rattle.model.specs.Table.{room, most, ABORT, portAt, copiesAt}
 use Rattle.model.specs.Mask.{stands}
 use Rattle.model.specs.Points.{oneOf, ownPlace, seenPlace, candidatePlace, candidateSpinPlace}
-use Rattle.model.specs.Good.{implies, everyBelow, named, sizeGood, sharedGood, fieldsGood, workGood, copiesGood, portEmpty, placeRules, placeGood, good}
+use Rattle.model.specs.Good.{implies, everyBelow, named, sizeGood, sharedGood, fieldsGood, workGood, copiesGood, portEmpty, placeGood, good}
 use Rattle.model.specs.Laws.Tests.{conjunct, every-below}
 use Rattle.model.specs.Laws.Mask.{within-lt, lt-within}
 use Rattle.model.specs.Laws.Rules.{portGood, PortRules, shared-rules, port-good, port-rules}
@@ -116,7 +116,7 @@ made-value v m h = implying _ _ (λ (q : eqb m 0 ≡ true). eq-eqb v 0 (omega (a
 
 -- the rules of a good table for the room at or above D, and for a port
 place-empty : (t : Table) (k : ℕ) → good t ≡ true → t .shared .d ≤ k → k < room → portEmpty (portAt t k) (copiesAt t k) ≡ true
-unfolding good placeGood placeRules
+unfolding good placeGood
 place-empty t k e l h =
     let groups = and-eq-true-iff (sizeGood (t .shared .d) && sharedGood (t .shared) _) (everyBelow room (placeGood t)) .0 e in
     rw (le-ltb k (t .shared .d) l) at (every-below room (placeGood t) (groups .1) k h)
@@ -188,7 +188,7 @@ fit-good t k f c =
     and implying _ _ (λ q. eq-eqb _ _ (c .1 (eqb-true _ _ q))))
 
 pub sound-good : (t : Table) → Sound t → good t ≡ true
-unfolding good sizeGood sharedGood placeGood placeRules
+unfolding good sizeGood sharedGood placeGood
 sound-good t s =
     let w = s .word in
     (le-leb _ _ (s .some) and le-leb _ _ (s .fits))

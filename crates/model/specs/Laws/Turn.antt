@@ -13,7 +13,8 @@ use Rattle.model.specs.Table.{CS, EXIT, word, readSpin}
 use Rattle.model.specs.Mask.{stands}
 use Rattle.model.specs.Ring.{next, distance}
 use Rattle.model.specs.Points.{Tens, two, three, four, Point, none, p0, p1, p2, p3, p4, p5, p6, p8, p9, p10, p11, p12, p13, p14, p15, p16, p17, p18, p19, x0, x1, x2, x3, x4, x5, tens, back, seenPlace, candidatePlace, candidateSpinPlace, settled}
-use Rattle.model.specs.Step.{at, withCandidate, withCandidateSpin, changedWord, up, bit, same, swapped, released, granted, step}
+use Rattle.model.specs.Step.{at, withCandidate, withCandidateSpin, same, swapped}
+use Rattle.model.specs.Parts.Moves.{changedWord, up, bit, released, granted, step}
 use Rattle.model.specs.Laws.Tests.{conjunct, split}
 use Rattle.model.specs.Laws.Mask.{empty}
 use Rattle.model.specs.Laws.Ring.{next-nearest}

@@ -14,8 +14,9 @@ use Rattle.model.specs.Table.{room, portAt, putPort, Sized}
 use Rattle.model.specs.Mask.{stands}
 use Rattle.model.specs.Points.{p6, pointOf, candidatePlace, settled}
 use Rattle.model.specs.Good.{good}
-use Rattle.model.specs.Step.{step}
-use Rattle.model.specs.Event.{stepping, ordered, viewOf, moveOf, stepped}
+use Rattle.model.specs.Event.{stepping, ordered}
+use Rattle.model.specs.Parts.Moves.{step}
+use Rattle.model.specs.Parts.Steps.{viewOf, moveOf, stepped}
 use Rattle.model.specs.Run.{Order, order, after, done, grants, passedOver}
 use Rattle.model.specs.Laws.Tests.{split}
 use Rattle.model.specs.Laws.Mask.{within-lt, set-own}

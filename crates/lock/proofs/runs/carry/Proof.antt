@@ -10,8 +10,9 @@ use Rattle.model.specs.declared.Touch.{Touch}
 use Rattle.model.specs.declared.Outcome.{Outcome}
 use Rattle.model.specs.Table.{room, Sized, portAt, copiesAt}
 use Rattle.model.specs.Points.{pointOf}
-use Rattle.model.specs.Cost.{home, touchAt}
-use Rattle.model.specs.Event.{numberOf, touchOf, homeOf, viewOf}
+use Rattle.model.specs.Event.{numberOf}
+use Rattle.model.specs.Parts.Charges.{home, touchAt}
+use Rattle.model.specs.Parts.Steps.{touchOf, homeOf, viewOf}
 use Rattle.model.specs.Run.{codeOf}
 use Rattle.model.specs.Paid.{paidAnswer, paidEvent}
 use Rattle.lock.specs.Sight.{steppedOn, assembled, refused, obeyed, moved}

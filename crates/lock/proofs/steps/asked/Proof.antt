@@ -4,7 +4,8 @@ use native.Mathlib.Omega.{arith}
 use borrow.Author.Needs.{needs}
 use borrow.Author.Tests.{eq-eqb, ne-eqb, eqb-false}
 use Rattle.model.specs.Points.{two, three, four, tens}
-use Rattle.model.specs.Step.{unasked, step}
+use Rattle.model.specs.Step.{unasked}
+use Rattle.model.specs.Parts.Moves.{step}
 use Rattle.model.specs.Laws.Ring.{next-below}
 use Rattle.lock.specs.Sight.{ringed}
 use Rattle.lock.proofs.steps.asked.Statement.{statement}

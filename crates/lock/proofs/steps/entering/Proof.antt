@@ -4,7 +4,7 @@ use mathlib.Core.Path.{_≡_, sym, ap, _∙_}
 use Prim.Native.Nat.{ℕ}
 use borrow.Author.Needs.{needs}
 use Rattle.model.specs.Points.{pointOf}
-use Rattle.model.specs.Step.{step}
+use Rattle.model.specs.Parts.Moves.{step}
 use Rattle.lock.specs.Sight.{round}
 use Rattle.lock.specs.Match.{entryKeys, outside, no-entry}
 use Rattle.lock.proofs.steps.entering.Statement.{statement}

@@ -1,5 +1,5 @@
 use borrow.Author.Needs.{needs}
-use Rattle.model.specs.Step.{granted}
+use Rattle.model.specs.Parts.Moves.{granted}
 use Rattle.lock.proofs.steps.granted.Statement.{statement}
 use Rattle.lock.proofs.steps.granted.Tie as tie
 

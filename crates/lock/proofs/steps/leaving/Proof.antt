@@ -3,7 +3,7 @@
 use mathlib.Core.Path.{sym, _∙_}
 use native.Mathlib.Omega.{arith}
 use borrow.Author.Needs.{needs}
-use Rattle.model.specs.Step.{step}
+use Rattle.model.specs.Parts.Moves.{step}
 use Rattle.lock.specs.Sight.{round}
 use Rattle.lock.specs.Match.{exitKeys, outside, no-exit}
 use Rattle.lock.proofs.steps.leaving.Statement.{statement}

@@ -1,7 +1,7 @@
 use mathlib.Core.Path.{refl}
 use native.Mathlib.Omega.{arith}
 use Rattle.model.specs.Table.{most}
-use Rattle.model.specs.Step.{step}
+use Rattle.model.specs.Parts.Moves.{step}
 use Rattle.lock.proofs.steps.new_spin.Statement.{statement}
 use Rattle.lock.proofs.steps.new_spin.Tie as tie
 

@@ -1,5 +1,5 @@
 use borrow.Author.Needs.{needs}
-use Rattle.model.specs.Step.{released}
+use Rattle.model.specs.Parts.Moves.{released}
 use Rattle.lock.proofs.steps.released.Statement.{statement}
 use Rattle.lock.proofs.steps.released.Tie as tie
 

@@ -2,7 +2,7 @@
 use mathlib.Core.Path.{refl, sym, ap, _∙_}
 use borrow.Author.Needs.{needs}
 use Rattle.model.specs.Points.{Point, two, three, four, tens, back}
-use Rattle.model.specs.Step.{step}
+use Rattle.model.specs.Parts.Moves.{step}
 use Rattle.lock.specs.Match.{promotion-two, promotion-three, promotion-four}
 use Rattle.lock.proofs.steps.step.Statement.{statement}
 use Rattle.lock.proofs.steps.step.Tie as tie

@@ -1,6 +1,6 @@
 use borrow.Author.Needs.{needs}
 use borrow.Author.Tests.{lt-ltb, le-ltb}
-use Rattle.model.specs.Good.{placeRules}
+use Rattle.model.specs.Parts.Rules.{placeRules}
 use Rattle.rules.proofs.good.place_good.Statement.{statement}
 use Rattle.rules.proofs.good.place_good.Tie as tie
 
