@@ -16,7 +16,7 @@ use Rattle.lines.specs.declared.Act.the-variants.{Keep, Open, Order, Bad}
 use Rattle.lines.specs.Reading.{act, live, cutOff}
 use Rattle.listing.specs.declared.Run.{Run}
 use Rattle.listing.specs.declared.Fed.{Fed}
-use Rattle.text.specs.Text.{longest, printed, rowOf, bad}
+use Rattle.text.specs.Text.{longest, printed, bad}
 
 -- a run with its table, the number of its line, what has been read of that line, and where it stands
 abbrev pub runAt : Table → ℕ → Part → Stage → Run
@@ -33,7 +33,7 @@ acted r (Keep p) = (runAt (r .table) (r .number) p (r .stage), [])
 acted r (Open d) = (runAt (fresh d .table) 1 Nothing Running, [])
 acted r (Order l e k) =
     let o = paidEvent (r .table) k e in
-    (runAt (o .table) ((r .number + 1) % 2 ^ 64) Nothing (r .stage), printed (rowOf (r .number) l k o))
+    (runAt (o .table) ((r .number + 1) % 2 ^ 64) Nothing (r .stage), printed (r .number) l k o)
 acted r Bad = (runAt (r .table) (r .number) (r .part) Over, bad (r .number))
 
 -- what a piece of input gives (the run after it, how many bytes were taken and written), and what it prints: bytes are taken while there is room for the longest line and the run is not at its end

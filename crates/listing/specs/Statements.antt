@@ -11,7 +11,7 @@ use Rattle.model.specs.Event.{event}
 use Rattle.listing.specs.declared.Run.{Run}
 use Rattle.listing.specs.declared.Fed.{Fed}
 use Rattle.lines.specs.Line.{orders, letter, number, eventOf}
-use Rattle.text.specs.Text.{longest, printed, rowOf, bad}
+use Rattle.text.specs.Text.{longest, printed, bad}
 use Rattle.listing.specs.Listing.{listed, listing}
 use Rattle.lines.specs.Reading.{live}
 use Rattle.listing.specs.Feed.{feeding, starting, ended}
@@ -41,7 +41,7 @@ ends-there t n l ls h = rw h
 -- Every other line prints its own line, whatever follows: line n's listing can be checked with the table so far and the line alone
 pub line-by-line : (t : Table) (n : ℕ) (l : List ℕ) (ls : List (List ℕ)) → orders l ≡ true
     → listed t n (l ∷ ls)
-    ≡ printed (rowOf n (letter l) (number l) (event t (number l) (eventOf (letter l))))
+    ≡ printed n (letter l) (number l) (event t (number l) (eventOf (letter l)))
     ++ listed (event t (number l) (eventOf (letter l)) .table) (n + 1) ls
 unfolding listed
 line-by-line t n l ls h = rw h

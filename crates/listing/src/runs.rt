@@ -19,6 +19,7 @@ ghost use lib.Seq.{sets};
 ghost use Rattle.model.specs.Event.{numberOf};
 ghost use Rattle.model.specs.Table.{portAt};
 ghost use Rattle.text.specs.Text as Text;
+ghost use Rattle.text.specs.Parts as Parts;
 ghost use Rattle.listing.specs.Feed as Feed;
 
 // A run before its first byte.
@@ -57,7 +58,7 @@ fn row(
     cached: u64,
     distributed: u64,
 ) -> Row
-    ensures { λ r. ⌜ r ≡ Text.row number letter port (numberOf answer) point shared cached distributed ⌝ }
+    ensures { λ r. ⌜ r ≡ Parts.row number letter port (numberOf answer) point shared cached distributed ⌝ }
 {
     Row {
         number,

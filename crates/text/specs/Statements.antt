@@ -10,7 +10,7 @@ use Rattle.model.specs.Good.{good}
 use Rattle.model.specs.Event.{numberOf, event}
 use Rattle.model.specs.Laws.Paid.{no-port}
 use Rattle.lines.specs.Line.{space, valueOf}
-use Rattle.text.specs.Text.{decimal, pointText, fitting}
+use Rattle.text.specs.Text.{decimal, pointText}
 use Rattle.text.specs.Laws.Value.{read-back}
 
 -- 'All numbers in decimal': the digits of a number stand for it
@@ -23,11 +23,11 @@ pub absent-port : (t : Table) (k e point : ℕ) → good t ≡ true → t .share
 unfolding pointText
 absent-port t k e point g h = rw (no-port t k e g h) (refl, refl)
 
--- Two results that meet a promise are equal, and so are two contents of the buffer: whatever the line that is put
-pub put-one : (out line : List ℕ) (at m n : ℕ) (x y : List ℕ)
-    → m ≡ at + length (fitting (length out) at line)
-    → x ≡ sets out at (fitting (length out) at line)
-    → n ≡ at + length (fitting (length out) at line)
-    → y ≡ sets out at (fitting (length out) at line)
+-- Two results that meet a promise are equal, and so are two contents of the buffer: whatever the text that is put, the line or nothing
+pub put-one : (out text : List ℕ) (at m n : ℕ) (x y : List ℕ)
+    → m ≡ at + length text
+    → x ≡ sets out at text
+    → n ≡ at + length text
+    → y ≡ sets out at text
     → (m ≡ n) × (x ≡ y)
-put-one out line at m n x y p q u v = (p ∙ sym u, q ∙ sym v)
+put-one out text at m n x y p q u v = (p ∙ sym u, q ∙ sym v)

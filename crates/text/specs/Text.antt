@@ -1,14 +1,12 @@
--- What is printed (document 01, 'Sample lines'): line number, event, port, answer, point after (`-` if no such port), ACTIVE, word as taken.owner.spin,
--- cached cost, distributed cost, all numbers in decimal; and `BAD` with its number for a malformed line.
+-- What is printed (document 01, 'Sample lines'): a line for each event, and `BAD` with its number for a malformed line.
 use mathlib.Core.Bool.{cond}
 use mathlib.Core.List.{List, [], _∷_, _++_}
 use Prim.Native.Nat.{ℕ, zero, suc, _+_, _/_, _%_}
-use lib.Dec.{eqb, ltb, leb}
+use lib.Dec.{eqb, ltb}
 use Rattle.model.specs.declared.Shared.{Shared}
 use Rattle.model.specs.declared.Outcome.{Outcome}
 use Rattle.model.specs.Table.{portAt}
 use Rattle.model.specs.Event.{numberOf}
-use Rattle.text.specs.declared.Row.{Row}
 use Rattle.lines.specs.Line.{newline, space, nought}
 
 -- the digits of n, in at most as many turns as are given; n is large enough for a turn to each of its digits
@@ -27,20 +25,16 @@ cell n after = decimal n ++ after ∷ []
 unfoldable pub pointText : ℕ → ℕ → List ℕ
 pointText answer point = cond (eqb answer 2) (45 ∷ space ∷ []) (cell point space)
 
--- the line that is printed for an event; byte 46 is the dot between the parts of the word
-unfoldable pub printed : Row → List ℕ
-printed r =
-    (cell (r .number) space ++ (r .letter ∷ space ∷ []) ++ cell (r .port) space)
-    ++ (cell (r .answer) space ++ pointText (r .answer) (r .point) ++ cell (r .shared .active) space)
-    ++ (cell (r .shared .word .taken) 46 ++ cell (r .shared .word .owner) 46 ++ cell (r .shared .word .spin) space)
-    ++ (cell (r .cached) space ++ cell (r .distributed) newline)
+-- 'line number, event, port, answer, point after (`-` if no such port), ACTIVE, word as taken.owner.spin, cached cost, distributed cost, all numbers in
+-- decimal': the event by its letter, ACTIVE and the word from what all ports share; byte 46 is the dot
+unfoldable pub line : ℕ → ℕ → ℕ → ℕ → ℕ → Shared → ℕ → ℕ → List ℕ
+line n letter port answer point s cached distributed =
+    (cell n space ++ (letter ∷ space ∷ []) ++ cell port space) ++ (cell answer space ++ pointText answer point ++ cell (s .active) space)
+    ++ (cell (s .word .taken) 46 ++ cell (s .word .owner) 46 ++ cell (s .word .spin) space) ++ (cell cached space ++ cell distributed newline)
 
--- what is printed for an event: line number, letter, port, answer, point, what all ports share, both costs; and from what an event answered
-abbrev pub row : ℕ → ℕ → ℕ → ℕ → ℕ → Shared → ℕ → ℕ → Row
-row n l k a p s c d = record { number = n; letter = l; port = k; answer = a; point = p; shared = s; cached = c; distributed = d }
-
-abbrev pub rowOf : ℕ → ℕ → ℕ → Outcome → Row
-rowOf n l k o = row n l k (numberOf (o .answer)) (portAt (o .table) k .point) (o .table .shared) (o .cached) (o .distributed)
+-- what is printed for an event's outcome: line number, letter, port, and what the event at that port gave
+abbrev pub printed : ℕ → ℕ → ℕ → Outcome → List ℕ
+printed n l k o = line n l k (numberOf (o .answer)) (portAt (o .table) k .point) (o .table .shared) (o .cached) (o .distributed)
 
 -- `BAD` and the number of a malformed line
 unfoldable pub bad : ℕ → List ℕ
@@ -49,7 +43,3 @@ bad n = (66 ∷ 65 ∷ 68 ∷ space ∷ []) ++ cell n newline
 -- room for the longest line
 abbrev pub longest : ℕ
 longest = 256
-
--- a line is put where the room has place for the longest from there on, and else nothing is
-abbrev pub fitting : ℕ → ℕ → List ℕ → List ℕ
-fitting room at line = cond (leb (at + longest) room) line []

@@ -6,6 +6,7 @@ ghost use lib.Dec.{leb};
 ghost use lib.ListN.{length};
 ghost use lib.Seq.{sets};
 ghost use Rattle.text.specs.Text as Text;
+ghost use Rattle.text.specs.Parts as Parts;
 
 mod putting;
 
@@ -36,8 +37,8 @@ fn has_room(room: usize, at: usize) -> bool
 
 // Puts the line for an event into `out` from a place on, where there is room for the longest line, and else nothing; gives the place after it.
 pub fn put_row(out: &mut [u8], at: usize, row: Row) -> usize
-    ensures { λ r. ⌜ r ≡ at + length (Text.fitting (length (now (out .entry))) at (Text.printed row)) ⌝ }
-    ensures { λ r. ⌜ now (out .exit) ≡ sets (now (out .entry)) at (Text.fitting (length (now (out .entry))) at (Text.printed row)) ⌝ }
+    ensures { λ r. ⌜ r ≡ at + length (Parts.fitting (length (now (out .entry))) at (Parts.rowText row)) ⌝ }
+    ensures { λ r. ⌜ now (out .exit) ≡ sets (now (out .entry)) at (Parts.fitting (length (now (out .entry))) at (Parts.rowText row)) ⌝ }
     ensures { λ r. ⌜ r ≤ at + Text.longest ⌝ }
 {
     if has_room(out.len(), at) {
@@ -48,8 +49,8 @@ pub fn put_row(out: &mut [u8], at: usize, row: Row) -> usize
 
 // The same with `BAD` and the number of a malformed line.
 pub fn put_bad(out: &mut [u8], at: usize, number: u64) -> usize
-    ensures { λ r. ⌜ r ≡ at + length (Text.fitting (length (now (out .entry))) at (Text.bad number)) ⌝ }
-    ensures { λ r. ⌜ now (out .exit) ≡ sets (now (out .entry)) at (Text.fitting (length (now (out .entry))) at (Text.bad number)) ⌝ }
+    ensures { λ r. ⌜ r ≡ at + length (Parts.fitting (length (now (out .entry))) at (Text.bad number)) ⌝ }
+    ensures { λ r. ⌜ now (out .exit) ≡ sets (now (out .entry)) at (Parts.fitting (length (now (out .entry))) at (Text.bad number)) ⌝ }
     ensures { λ r. ⌜ r ≤ at + Text.longest ⌝ }
 {
     if has_room(out.len(), at) {

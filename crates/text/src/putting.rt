@@ -6,6 +6,7 @@ ghost use Prim.Native.Nat.{_+_, _%_, _<_};
 ghost use mathlib.Core.List.{_∷_, [], _++_};
 ghost use Rattle.lines.specs.Line.{newline, space};
 ghost use Rattle.text.specs.Text as Text;
+ghost use Rattle.text.specs.Parts as Parts;
 ghost use Rattle.text.specs.Laws.Put.{Put, limit};
 
 const NEWLINE: u8 = 10;
@@ -114,7 +115,7 @@ fn put_costs(out: &mut [u8], at: usize, cached: u64, distributed: u64) -> usize
 // The line for an event.
 pub fn event_line(out: &mut [u8], at: usize, row: Row) -> usize
     requires { ⌜ at + Text.longest < limit ⌝ }
-    ensures { λ r. ⌜ Put (now (out .entry)) at (Text.printed row) Text.longest r (now (out .exit)) ⌝ }
+    ensures { λ r. ⌜ Put (now (out .entry)) at (Parts.rowText row) Text.longest r (now (out .exit)) ⌝ }
 {
     let shared = row.shared;
     let word = shared.word;

@@ -9,7 +9,8 @@ use borrow.Author.Tests.{leb-true, leb-false, le-leb, lt-leb}
 use lib.Dec.{leb}
 use lib.ListN.{length}
 use lib.Seq.{sets}
-use Rattle.text.specs.Text.{longest, fitting}
+use Rattle.text.specs.Text.{longest}
+use Rattle.text.specs.Parts.{fitting}
 use Rattle.text.specs.Laws.Put.{Put, limit}
 
 pub too-short : (room at : ℕ) → room < longest → false ≡ leb (at + longest) room

@@ -98,7 +98,7 @@ unfolding acted
 loop-again-3 c =
     turned (c .before .before .before .before .before .before .before .before .before .before .before .before) _ _ _ (Order _ _ _) (c .before .before .before .before .before .before .before .before .before .before .act4 .given .1)
     (rw (c .before .before .before .before .before .before .before .before .paid .ensures, c .wrapping-add-u64 .ensures))
-    (rw (← (c .before .before .before .before .before .before .before .before .paid .ensures), ← (c .before .before .before .before .before .before .point-at .ensures), ← (c .before .before .before .before .before .row .ensures)) (whole-line (room-left (c .before .before .before .before .before .before .before .before .before .before .before .before .before .before)) (c .before .before .before .put-row .ensures)))
+    (rw (← (c .before .before .before .before .before .before .before .before .paid .ensures), ← (c .before .before .before .before .before .before .point-at .ensures)) (whole-line (room-left (c .before .before .before .before .before .before .before .before .before .before .before .before .before .before)) (rw (c .before .before .before .before .before .row .ensures) at (c .before .before .before .put-row .ensures))))
 
 loop-less-4 : tie.Need-loop-less-4 Inv-loop μ-loop
 loop-less-4 c = omega (arith, tests (c .before .before .before .before .before .before .before .before) .0)

@@ -1,12 +1,12 @@
 use native.Mathlib.Omega.{arith}
-use Rattle.text.specs.Text.{printed}
+use Rattle.text.specs.Text.{line}
 use Rattle.text.specs.Laws.Put.{and-then, within}
 use borrow.Author.Needs.{needs}
 use Rattle.text.proofs.putting.event_line.Statement.{statement}
 use Rattle.text.proofs.putting.event_line.Tie as tie
 
 returns : tie.Need-returns
-unfolding printed
+unfolding line
 returns c =
     within (omega arith)
     (and-then (and-then (and-then (c .before .before .before .before .before .before .before .before .before .before .before .before .before .before .put-order .ensures) (c .before .before .before .before .before .before .before .before .before .before .put-state .ensures)) (c .before .before .before .before .before .before .put-word .ensures)) (c .before .before .put-costs .ensures))
