@@ -1,6 +1,6 @@
 -- A step put together from its parts is the step of document 01: point by point.
 use mathlib.Core.Path.{_≡_, refl, sym, ap}
-use mathlib.Core.Bool.{Bool, true, false, cond, _&&_}
+use mathlib.Core.Bool.{Bool, true, cond}
 use mathlib.Core.List.{List, [], _∷_}
 use Prim.Native.Nat.{ℕ, zero, suc}
 use lib.Dec.{eqb}
@@ -25,7 +25,7 @@ use Rattle.model.specs.Event.{stepping, ordered, carried}
 use Rattle.model.specs.Parts.Moves.{view, released, granted}
 use Rattle.model.specs.Parts.Moves as Moves
 use Rattle.model.specs.Parts.Charges.{touchAt, home, charge}
-use Rattle.model.specs.Parts.Steps.{touchOf, homeOf, viewOf, moveOf, sharedAfter, copiesAfter, chargeOf, marked, stepped}
+use Rattle.model.specs.Parts.Steps.{touchOf, homeOf, viewOf, moveOf, sharedAfter, copiesAfter, chargeOf, setting, marked, stepped}
 use Rattle.model.specs.Laws.Tests.{split}
 
 -- what is put at a place after something else was put there
@@ -52,7 +52,7 @@ module _ (t : Table) (k : ℕ) where
 
   abbrev markedAt : Point → List Port → List Port
   markedAt q ps =
-      cond (moveAt q .sets && latest (portAt t (there q)) (me .work .seenspin)) (set ps (there q) (withValue 1 (getD ps (there q) noPort))) ps
+      cond (setting (moveAt q) (portAt t (there q)) (me .work)) (set ps (there q) (withValue 1 (getD ps (there q) noPort))) ps
 
   abbrev whole : Point → Outcome
   whole q =
@@ -101,7 +101,7 @@ module _ (t : Table) (k : ℕ) where
   step-whole (x3 x) = put-back _ k _ _ 1
   step-whole (x4 x) = put-back _ k _ _ 1
   step-whole (x5 x) =
-      split (λ (o : Outcome). o ≡ whole (x5 x)) (latest (portAt t (me .work .seenowner)) (me .work .seenspin)) _ _
+      split (λ (o : Outcome). o ≡ whole (x5 x)) (setting (moveAt (x5 x)) (portAt t (there (x5 x))) (me .work)) _ _
       (λ e. rw e)
       (λ e. rw e (put-back _ (me .work .seenowner) (t .shared) 1 _))
 

@@ -3,6 +3,7 @@ use mathlib.Core.Bool.{Bool, cond, _&&_}
 use mathlib.Core.List.{List}
 use Prim.Native.Nat.{ℕ}
 use lib.ListN.{getD, set}
+use Rattle.model.specs.declared.Work.{Work}
 use Rattle.model.specs.declared.Port.{Port}
 use Rattle.model.specs.declared.Copies.{Copies}
 use Rattle.model.specs.declared.Shared.{Shared}
@@ -45,9 +46,12 @@ chargeOf t k =
     charge (touchOf t k) k (portAt t k .work) (portAt t (homeOf t k))
     (sharedAfter (moveOf t k) (t .shared)) (copiesAfter (moveOf t k) (copiesAt t (homeOf t k)))
 
--- the step of port k sets the seen owner's seen spin; a write to an older spin changes nothing. The ports with that spin set to 1
+-- a move sets the seen spin of the port that it touches, q; a write to an older spin changes nothing. The ports with that spin set to 1
+abbrev pub setting : Move → Port → Work → Bool
+setting m q w = m .sets && latest q (w .seenspin)
+
 abbrev pub marks : Table → ℕ → Bool
-marks t k = moveOf t k .sets && latest (portAt t (homeOf t k)) (portAt t k .work .seenspin)
+marks t k = setting (moveOf t k) (portAt t (homeOf t k)) (portAt t k .work)
 
 unfoldable pub marked : Table → ℕ → List Port → List Port
 marked t k ps = cond (marks t k) (set ps (homeOf t k) (withValue 1 (getD ps (homeOf t k) noPort))) ps
