@@ -5,9 +5,9 @@ pub mod Compute
 pub mod Mask
 pub mod Ring
 pub mod Rules
+pub mod Own
 pub mod Stepped
 pub mod Cases
-pub mod Own
 pub mod Grants
 pub mod After
 pub mod Ports

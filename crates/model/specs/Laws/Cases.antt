@@ -16,7 +16,7 @@ use Rattle.model.specs.Table.{room, most, noWork, portAt, putPort}
 use Rattle.model.specs.Good.{good}
 use Rattle.model.specs.Cost.{free}
 use Rattle.model.specs.Step.{at, withFlag, withWork}
-use Rattle.model.specs.Event.{numberOf, enter, stepping, crash, callOff, leave, firstOf, refusals, refusal, ordered, carried, event}
+use Rattle.model.specs.Event.{numberOf, enter, stepping, crash, callOff, leave, firstOf, refusals, refusal, ordered, event}
 use Rattle.model.specs.Parts.Steps.{stepped}
 use Rattle.model.specs.Run.{Order, order, answered, after}
 use Rattle.model.specs.Laws.Stepped.{carried-parts}

@@ -18,7 +18,7 @@ use Rattle.model.specs.Points.{p0, p1, pointOf, oneOf, settled}
 use Rattle.model.specs.Good.{good}
 use Rattle.model.specs.Cost.{free}
 use Rattle.model.specs.Step.{at, withValue, withWork}
-use Rattle.model.specs.Event.{stepping, crash, firstOf, refusals, refusal, ordered, carried, event}
+use Rattle.model.specs.Event.{stepping, crash, firstOf, refusals, refusal, ordered, event}
 use Rattle.model.specs.Parts.Moves.{step}
 use Rattle.model.specs.Parts.Steps.{stepped}
 use Rattle.model.specs.Run.{Order, order, after, ran, done, stepsAt, stepless}

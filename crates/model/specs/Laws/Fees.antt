@@ -27,8 +27,8 @@ use Rattle.model.specs.Good.{good}
 use Rattle.model.specs.Event.{numberOf, stepping, refusal, carried, event}
 use Rattle.model.specs.Parts.Moves.{step}
 use Rattle.model.specs.Parts.Charges.{untouched, touchAt, home, cached, charge, old, distributed}
-use Rattle.model.specs.Parts.Steps.{touchOf, homeOf, viewOf, moveOf, sharedAfter, copiesAfter, chargeOf, stepped}
-use Rattle.model.specs.Laws.Stepped.{carried-parts}
+use Rattle.model.specs.Parts.Steps.{touchOf, homeOf, viewOf, moveOf, chargeOf, stepped}
+use Rattle.model.specs.Laws.Stepped.{chargeAt, carried-parts}
 use Rattle.model.specs.Laws.Tests.{split}
 use Rattle.model.specs.Laws.Mask.{joined-own}
 use Rattle.model.specs.Laws.Rules.{shared-rules}
@@ -88,22 +88,9 @@ event-cost t k e = split Small (eqb (numberOf (refusal t k e)) 0) _ _ (λ n. car
 
 -- the charge of a step of port k at point q
 module _ (t : Table) (k : ℕ) where
-  abbrev there : Point → ℕ
-  there q = home (touchAt q .cell) k (portAt t k .work)
-
-  abbrev chargeAt : Point → Charge
-  chargeAt q =
-      charge
-      (touchAt q)
-      k
-      (portAt t k .work)
-      (portAt t (there q))
-      (sharedAfter (step q (viewOf t k)) (t .shared))
-      (copiesAfter (step q (viewOf t k)) (copiesAt t (there q)))
-
-  charge-at : (q : Point) → pointOf (portAt t k .point) ≡ q → chargeOf t k ≡ chargeAt q
-  unfolding chargeOf touchOf homeOf moveOf
-  charge-at q e = ap chargeAt e
+  charge-at : (q : Point) → pointOf (portAt t k .point) ≡ q → chargeOf t k ≡ chargeAt t k q
+  unfolding chargeOf touchOf homeOf viewOf moveOf
+  charge-at q e = ap (chargeAt t k) e
 
   -- it costs at most 1 in either model, and nothing where the step touches no word
   cost : (chargeOf t k .cached ≤ 1) × (chargeOf t k .distributed ≤ 1)

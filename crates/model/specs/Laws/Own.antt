@@ -11,7 +11,7 @@ use Rattle.model.specs.declared.View.{View}
 use Rattle.model.specs.Table.{portAt}
 use Rattle.model.specs.Points.{Point, none, p0, p1, p2, p3, p4, p5, p6, p8, p9, p10, p11, p12, p13, p14, p15, p16, p17, p18, p19, x0, x1, x2, x3, x4, x5, tens, pointOf}
 use Rattle.model.specs.Good.{implies, everyBelow, named}
-use Rattle.model.specs.Parts.Moves.{step}
+use Rattle.model.specs.Parts.Moves.{view, step}
 use Rattle.model.specs.Parts.Charges.{touchAt, home}
 use Rattle.model.specs.Parts.Steps.{touchOf, homeOf, viewOf, moveOf}
 use Rattle.model.specs.Laws.Tests.{implied, every-below}
@@ -63,8 +63,7 @@ number n q h e = elim (decLt n 50) [
 
 -- what port k sees, with GO g of the port that it touches
 abbrev pub sightOf : Table → ℕ → ℕ → View
-sightOf t k g =
-    record { own = portAt t k; active = t .shared .active; d = t .shared .d; k = k; go = g; word = t .shared .word }
+sightOf t k g = view (portAt t k) (t .shared .active) (t .shared .d) k g (t .shared .word)
 
 -- the step of a port at a known point, and the port that it touches
 pub move-at : (t : Table) (k : ℕ) (q : Point) → pointOf (portAt t k .point) ≡ q

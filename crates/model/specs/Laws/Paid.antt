@@ -11,7 +11,7 @@ use Rattle.model.specs.declared.Answer.the-variants.{BadTable, NoSuchPor
 use Rattle.model.specs.Table.{Sized, portAt}
 use Rattle.model.specs.Good.{sizeGood, good}
 use Rattle.model.specs.Cost.{free}
-use Rattle.model.specs.Event.{numberOf, firstOf, refusals, refusal, stepping, carried, event}
+use Rattle.model.specs.Event.{numberOf, firstOf, refusals, refusal, stepping, event}
 use Rattle.model.specs.Run.{Order, after, ran, codes}
 use Rattle.model.specs.Paid.{placed, paidAnswer, paidEvent, paidRan, paidCodes}
 use Rattle.model.specs.Laws.Tests.{split}

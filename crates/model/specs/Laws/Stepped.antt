@@ -1,6 +1,6 @@
 -- A step put together from its parts is the step of document 01: point by point.
 use mathlib.Core.Path.{_≡_, refl, sym, ap}
-use mathlib.Core.Bool.{Bool, true, cond}
+use mathlib.Core.Bool.{true, cond}
 use mathlib.Core.List.{List, [], _∷_}
 use Prim.Native.Nat.{ℕ, zero, suc}
 use lib.Dec.{eqb}
@@ -22,11 +22,12 @@ use Rattle.model.specs.Cost.{outcome, free}
 use Rattle.model.specs.Step.{withValue}
 use Rattle.model.specs.Step as Step
 use Rattle.model.specs.Event.{stepping, ordered, carried}
-use Rattle.model.specs.Parts.Moves.{view, released, granted}
+use Rattle.model.specs.Parts.Moves.{released, granted}
 use Rattle.model.specs.Parts.Moves as Moves
 use Rattle.model.specs.Parts.Charges.{touchAt, home, charge}
 use Rattle.model.specs.Parts.Steps.{touchOf, homeOf, viewOf, moveOf, sharedAfter, copiesAfter, chargeOf, setting, marked, stepped}
 use Rattle.model.specs.Laws.Tests.{split}
+use Rattle.model.specs.Laws.Own.{sightOf}
 
 -- what is put at a place after something else was put there
 put-twice : (cs : List Copies) (k : ℕ) (c : Copies) (f : Copies → Copies)
@@ -40,13 +41,13 @@ module _ (t : Table) (k : ℕ) where
   me = portAt t k
 
   -- the parts of a step at point q, and the step from them
-  abbrev there : Point → ℕ
+  abbrev pub there : Point → ℕ
   there q = home (touchAt q .cell) k (me .work)
 
-  abbrev moveAt : Point → Move
-  moveAt q = Moves.step q (view me (t .shared .active) (t .shared .d) k (portAt t (there q) .go) (t .shared .word))
+  abbrev pub moveAt : Point → Move
+  moveAt q = Moves.step q (sightOf t k (portAt t (there q) .go))
 
-  abbrev chargeAt : Point → Charge
+  abbrev pub chargeAt : Point → Charge
   chargeAt q =
       charge (touchAt q) k (me .work) (portAt t (there q)) (sharedAfter (moveAt q) (t .shared)) (copiesAfter (moveAt q) (copiesAt t (there q)))
 
