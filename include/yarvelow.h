@@ -22,16 +22,22 @@ extern "C" {
 #define YARVELOW_IMAGE(d) (30 + 22 * (size_t)(d))
 #define YARVELOW_IMAGE_MOST YARVELOW_IMAGE(YARVELOW_PORTS)
 
-/* The byte of an image that is the point of port k: 0 while it is idle, 11 while it is inside. */
+/* Where in an image a controller may want to look: the lock word, taken (1) or free (0), and its owner; the point of port k, 0
+ * while it is idle and 11 while it is inside; and how many spins port k has made, two bytes with the low one first. */
+#define YARVELOW_TAKEN 22
+#define YARVELOW_OWNER 23
 #define YARVELOW_POINT(k) (26 + 16 * (size_t)(k))
+#define YARVELOW_MADE(k) (30 + 16 * (size_t)(k))
 
 /* Events. Only a step costs anything. */
 enum yarvelow_order {
     YARVELOW_ENTER = 1,    /* an idle port begins a passage */
     YARVELOW_STEP = 2,     /* at most one memory operation */
-    YARVELOW_CRASH = 3,    /* the port forgets where it was; if it was inside, its next step brings it back there */
+    YARVELOW_CRASH = 3,    /* the port forgets where it was; if it was inside, its next step brings it back there, and else
+                              step it until it is inside or idle: others may wait for it */
     YARVELOW_CALL_OFF = 4, /* the port is to give up waiting: step it until it is idle, or inside if its turn came first */
-    YARVELOW_LEAVE = 5     /* a port that is inside begins to leave; it has left with its next step */
+    YARVELOW_LEAVE = 5     /* a port that is inside begins to leave: step it until it is idle. It is out with its next step, but
+                              nobody else gets in before it has let go */
 };
 
 /* Numbers of an answer. */

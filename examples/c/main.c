@@ -9,7 +9,8 @@
 #include <yarvelow.h>
 
 /* Steps a port until it is at the end that is named, INSIDE on the way in and IDLE on the way out; counts its steps and sums up
- * their costs. (A port that was called off may come to either end.) */
+ * their costs. (A port that was called off may come to either end; one that waits answers DONE without end, so a controller steps
+ * the others in between: see rack.c.) */
 static void walk(uint8_t *image, size_t length, uint64_t port, unsigned end, const char *what) {
     unsigned steps = 0, cached = 0, distributed = 0;
     for (;;) {

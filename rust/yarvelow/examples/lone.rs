@@ -3,7 +3,7 @@
 use yarvelow::{Event, Lock, Refusal};
 
 /// Steps a port until it is at the end that is named, `Inside` on the way in and `Idle` on the way out, and prints its steps and their costs. (A port that was
-/// called off may come to either end.)
+/// called off may come to either end; one that waits answers `Ok` without end, so a controller steps the others in between: see `rack.rs`.)
 fn walk(lock: &mut Lock, port: u64, end: Refusal, what: &str) -> Result<(), Refusal> {
     let (mut steps, mut cached, mut distributed) = (0, 0, 0);
     loop {

@@ -1,7 +1,7 @@
 //! The lock engine of document 01 from Rust: the table of one lock with D ports, kept as an image in memory.
 //!
 //! The engine is proved; it comes as the archive `libcabi.a`, and the environment variable `YARVELOW_LIB` names the archive's directory when this crate is
-//! built. A [`Lock`] holds an image that was looked at once, in bytes of its own or in lent ones that outlive a restart. The
+//! built. A [`Lock`] holds an image of a good table, in bytes of its own or in lent ones that outlive a restart. The
 //! functions [`fresh`], [`check`], [`event`] and [`run`] work on plain buffers.
 //!
 //! ```
@@ -10,7 +10,8 @@
 //! # fn main() -> Result<(), Refusal> {
 //! let mut lock = Lock::fresh(2)?;
 //! lock.event(0, Event::Enter)?;
-//! // A port steps until it is inside; its 14 steps cost 9 remote references in the cached model.
+//! // A port steps until it is inside; its 14 steps cost 9 remote references in the cached model. With others in the lock it may wait,
+//! // and then a step is `Ok` again and again: step them in between, as `examples/rack.rs` does.
 //! let mut cached = 0;
 //! while let Ok(costs) = lock.event(0, Event::Step) {
 //!     cached += costs.cached;
@@ -67,6 +68,44 @@ pub const fn point_place(k: usize) -> usize {
     26 + 16 * k
 }
 
+/// The byte of an image that says whether the lock word is taken (1) or free (0).
+///
+/// ```
+/// use yarvelow::{Event, Lock, OWNER_PLACE, TAKEN_PLACE};
+///
+/// # fn main() -> Result<(), yarvelow::Refusal> {
+/// let mut lock = Lock::fresh(2)?;
+/// assert_eq!(lock.image()[TAKEN_PLACE], 0);
+/// lock.event(1, Event::Enter)?;
+/// while lock.event(1, Event::Step).is_ok() {}
+/// assert_eq!(lock.image()[TAKEN_PLACE], 1);
+/// assert_eq!(lock.image()[OWNER_PLACE], 1);
+/// # Ok(())
+/// # }
+/// ```
+pub const TAKEN_PLACE: usize = 22;
+
+/// The byte of an image that is the lock word's owner.
+pub const OWNER_PLACE: usize = 23;
+
+/// The first of the two bytes of an image, the low one first, that say how many spins port `k` has made.
+///
+/// ```
+/// use yarvelow::{made_place, Event, Lock};
+///
+/// # fn main() -> Result<(), yarvelow::Refusal> {
+/// let mut lock = Lock::fresh(2)?;
+/// lock.event(1, Event::Enter)?;
+/// while lock.event(1, Event::Step).is_ok() {}
+/// assert_eq!(lock.image()[made_place(0)..][..2], [0, 0]);
+/// assert_eq!(lock.image()[made_place(1)..][..2], [1, 0]);
+/// # Ok(())
+/// # }
+/// ```
+pub const fn made_place(k: usize) -> usize {
+    30 + 16 * k
+}
+
 /// An event at a port.
 #[derive(Clone, Copy, Debug, PartialEq, Eq, Hash)]
 #[repr(u64)]
@@ -75,11 +114,12 @@ pub enum Event {
     Enter = 1,
     /// S: at most one memory operation; the only event that costs anything.
     Step = 2,
-    /// X: the port forgets where it was; if it was inside, its next step brings it back there.
+    /// X: the port forgets where it was; if it was inside, its next step brings it back there, and else step it until it is inside or idle: others may
+    /// wait for it.
     Crash = 3,
     /// A: the port is to give up waiting: step it until it is idle, or inside if its turn came first.
     CallOff = 4,
-    /// L: a port that is inside begins to leave; it has left with its next step.
+    /// L: a port that is inside begins to leave: step it until it is idle. It is out with its next step, but nobody else gets in before it has let go.
     Leave = 5,
 }
 
