@@ -82,7 +82,7 @@ def main():
         for value in range(256):
             if value != IMAGE[i]:
                 counts[answer(IMAGE[:i] + bytes([value]) + IMAGE[i + 1:])] += 1
-    print("damages", sum(counts.values()), "done", counts[0], "bad table", counts[1], "bad image", counts[11])
+    print("damages: of", sum(counts.values()), "damages of one byte of an image", counts[0], "pass,", counts[1], "are BAD TABLE,", counts[11], "BAD IMAGE")
 
 
 main()

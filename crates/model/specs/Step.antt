@@ -75,7 +75,7 @@ unasked two k p = at 24 p
 unasked three k p = at 32 (withCandidate k p)
 unasked four k p = at 44 p
 
--- the step of port k, whose record is p. At 0, at 11 and at a number that is no point there is nothing to do. A write to a spin that isn't the latest
+-- the step of port k, whose record is p: how it touches which word, and the table after it. At 0, at 11 and at a number that is no point there is nothing to do. A write to a spin that isn't the latest
 -- changes nothing
 unfoldable pub step : Point → Table → ℕ → Port → Outcome
 unfolding unasked
