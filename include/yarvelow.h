@@ -22,22 +22,28 @@ extern "C" {
 #define YARVELOW_IMAGE(d) (30 + 22 * (size_t)(d))
 #define YARVELOW_IMAGE_MOST YARVELOW_IMAGE(YARVELOW_PORTS)
 
-/* Where in an image a controller may want to look: the lock word, taken (1) or free (0), and its owner; the point of port k, 0
- * while it is idle and 11 while it is inside; and how many spins port k has made, two bytes with the low one first. */
+/* Where in an image a controller may want to look. The lock word: taken (1) or free (0), its owner, and the owner's spin that
+ * it is taken for. Of port k: its point, 0 while it is idle and 11 while it is inside; its STATUS, 1 while it holds the lock,
+ * crashes included; how many spins it has made; and GO, the spin that it has on its way, 0 for none. Spins are two bytes, the
+ * low one first. */
 #define YARVELOW_TAKEN 22
 #define YARVELOW_OWNER 23
+#define YARVELOW_SPIN 24
 #define YARVELOW_POINT(k) (26 + 16 * (size_t)(k))
+#define YARVELOW_STATUS(k) (27 + 16 * (size_t)(k))
 #define YARVELOW_MADE(k) (30 + 16 * (size_t)(k))
+#define YARVELOW_GO(k) (32 + 16 * (size_t)(k))
 
 /* Events. Only a step costs anything. */
 enum yarvelow_order {
-    YARVELOW_ENTER = 1,    /* an idle port begins a passage */
+    YARVELOW_ENTER = 1,    /* an idle port begins: step it until it is inside */
     YARVELOW_STEP = 2,     /* at most one memory operation */
     YARVELOW_CRASH = 3,    /* the port forgets where it was; if it was inside, its next step brings it back there, and else
                               step it until it is inside or idle: others may wait for it */
-    YARVELOW_CALL_OFF = 4, /* the port is to give up waiting: step it until it is idle, or inside if its turn came first */
-    YARVELOW_LEAVE = 5     /* a port that is inside begins to leave: step it until it is idle. It is out with its next step, but
-                              nobody else gets in before it has let go */
+    YARVELOW_CALL_OFF = 4, /* the port is to give up waiting, crashes notwithstanding: step it until it is idle, or inside if
+                              its turn came first */
+    YARVELOW_LEAVE = 5     /* a port that is inside begins to leave. It is out with its first step after this; step it on until
+                              it is idle, since nobody else gets in before it has let go */
 };
 
 /* Numbers of an answer. */
@@ -46,8 +52,9 @@ enum yarvelow_number {
     YARVELOW_BAD_TABLE = 1,     /* an image by its form, of a table that breaks a rule of document 01 */
     YARVELOW_NO_SUCH_PORT = 2,  /* port at or above D */
     YARVELOW_NO_SUCH_EVENT = 3, /* event not 1 to 5 */
-    YARVELOW_BUSY = 4,          /* enter, and the port is in a passage */
-    YARVELOW_WORN = 5,          /* enter, and the port has made all its 65,535 spins, at most one for a passage */
+    YARVELOW_BUSY = 4,          /* enter, and the port isn't idle */
+    YARVELOW_WORN = 5,          /* enter, and the port has made all its 65,535 spins, at most one from an enter to the next idle;
+                                   or a step at point 4 then, which no fresh table comes to */
     YARVELOW_NOT_INSIDE = 6,    /* leave, and the port isn't inside */
     YARVELOW_IDLE = 7,          /* step, crash or call off of an idle port */
     YARVELOW_INSIDE = 8,        /* step of a port that is inside */

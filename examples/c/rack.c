@@ -2,6 +2,10 @@
  * answers DONE again and again, so the others are stepped in between. One that is inside does its work, here one crash and one
  * line, and leaves; it is stepped on until it is idle, since nobody else gets in before it has let go.
  *
+ * Left out here: a controller makes the fresh table once, keeps the image where it outlives a restart, and begins with
+ * yarvelow_check; its recorders take their time between INSIDE and LEAVE, and it does not end at a refusal. README, 'Before you
+ * build on it', says what else it does.
+ *
  *     tools/native staticlib cabi libcabi.a
  *     cc -Iinclude examples/c/rack.c libcabi.a -o rack && ./rack
  */
@@ -24,6 +28,15 @@ static unsigned carry_out(uint64_t port, uint64_t event, unsigned expected) {
     return number;
 }
 
+static unsigned spin_at(size_t place) { return image[place] + 256u * image[place + 1]; }
+
+/* The word was left naming a port that will not come (docs/STUCK.md): nobody else would get in. */
+static int left_behind(void) {
+    unsigned owner = image[YARVELOW_OWNER];
+    return image[YARVELOW_TAKEN] == 1 &&
+           (image[YARVELOW_POINT(owner)] == 0 || spin_at(YARVELOW_SPIN) != spin_at(YARVELOW_GO(owner)));
+}
+
 int main(void) {
     if (yarvelow_number_of(yarvelow_fresh(PORTS, image, sizeof image)) != YARVELOW_DONE) {
         return 1;
@@ -33,6 +46,9 @@ int main(void) {
     }
     int crashed = 0;
     for (unsigned home = 0; home < PORTS;) {
+        if (left_behind()) {
+            return 1;
+        }
         home = 0;
         for (uint64_t port = 0; port < PORTS; port++) {
             if (image[YARVELOW_POINT(port)] == 0) {
@@ -42,13 +58,13 @@ int main(void) {
                 if (!crashed) {
                     crashed = 1;
                     carry_out(port, YARVELOW_CRASH, YARVELOW_DONE);
-                    printf("port %u crashed\n", (unsigned)port);
+                    printf("port %u crashed, STATUS %u\n", (unsigned)port, image[YARVELOW_STATUS(port)]);
                 } else {
                     carry_out(port, YARVELOW_LEAVE, YARVELOW_DONE);
                 }
             }
         }
     }
-    printf("all are home; port 0 has made %u of 65535 spins\n", image[YARVELOW_MADE(0)] + 256u * image[YARVELOW_MADE(0) + 1]);
+    printf("all are home; port 0 has made %u of 65535 spins\n", spin_at(YARVELOW_MADE(0)));
     return yarvelow_check(image, sizeof image) == YARVELOW_DONE ? 0 : 1;
 }

@@ -12,6 +12,7 @@ use Rattle.model.specs.declared.Answer.the-variants.{Done}
 use Rattle.model.specs.Table.{room, Sized}
 use Rattle.model.specs.Good.{good}
 use Rattle.model.specs.Laws.Rules.{shared-rules}
+use Rattle.model.specs.Statements.{one}
 use Rattle.layout.specs.Bytes.{Bytes}
 use Rattle.layout.specs.Layout.{size}
 use Rattle.image.specs.declared.Written.{Written}
@@ -64,20 +65,20 @@ read-written bs out next m w f h e a p q =
 
 -- 3. Two results that meet a promise are equal, and so are two contents of the room
 pub open-one : (bs : List ℕ) (r s : Made) → r ≡ opened bs → s ≡ opened bs → r ≡ s
-open-one bs r s p q = p ∙ sym q
+open-one bs r s = one
 
 pub read-one : (bs : List ℕ) (r s : Made) → r ≡ decode bs → s ≡ decode bs → r ≡ s
-read-one bs r s p q = p ∙ sym q
+read-one bs r s = one
 
 pub put-one : (t : Table) (out : List ℕ) (v w : Written) (a b : List ℕ)
     → v ≡ written (putAnswer t (length out)) t → a ≡ roomAfter (putAnswer t (length out)) t out
     → w ≡ written (putAnswer t (length out)) t → b ≡ roomAfter (putAnswer t (length out)) t out → (v ≡ w) × (a ≡ b)
-put-one t out v w a b p q r s = (p ∙ sym r, q ∙ sym s)
+put-one t out v w a b p q r s = (one p r, one q s)
 
 pub write-one : (t : Table) (out : List ℕ) (v w : Written) (a b : List ℕ)
     → v ≡ written (writeAnswer t (length out)) t → a ≡ roomAfter (writeAnswer t (length out)) t out
     → w ≡ written (writeAnswer t (length out)) t → b ≡ roomAfter (writeAnswer t (length out)) t out → (v ≡ w) × (a ≡ b)
-write-one t out v w a b p q r s = (p ∙ sym r, q ∙ sym s)
+write-one t out v w a b p q r s = (one p r, one q s)
 
 -- 4. The length of an image is 30 + 22 D, 52 at D = 1 and 382 at D = 16, and each of its bytes is below 256
 pub image-length : (t : Table) → Sized t → t .shared .d ≤ room → length (encode t) ≡ 30 + 22 * t .shared .d

@@ -1,6 +1,6 @@
 -- What is proved of the listing, for a reader who knows the definitions and no proof. A statement stands under a comment that says in words what it
 -- means; the line below it names its proof.
-use mathlib.Core.Path.{_≡_, sym, _∙_}
+use mathlib.Core.Path.{_≡_}
 use mathlib.Core.Bool.{true, false}
 use mathlib.Core.List.{List, _∷_, _++_}
 use Prim.Native.Nat.{ℕ, _+_, _≤_, _<_, _^_}
@@ -8,6 +8,7 @@ use lib.ListN.{length}
 use lib.Seq.{sets}
 use Rattle.model.specs.declared.Table.{Table}
 use Rattle.model.specs.Event.{event}
+use Rattle.model.specs.Statements.{one}
 use Rattle.listing.specs.declared.Run.{Run}
 use Rattle.listing.specs.declared.Fed.{Fed}
 use Rattle.lines.specs.Line.{orders, letter, number, eventOf}
@@ -53,7 +54,7 @@ pub feed-one : (r : Run) (input out : List ℕ) (f g : Fed) (x y : List ℕ)
     → g ≡ feeding (length out) r input .0
     → y ≡ sets out 0 (feeding (length out) r input .1)
     → (f ≡ g) × (x ≡ y)
-feed-one r input out f g x y p q u v = (p ∙ sym u, q ∙ sym v)
+feed-one r input out f g x y p q u v = (one p u, one q v)
 
 pub finish-one : (r : Run) (out : List ℕ) (m n : ℕ) (x y : List ℕ)
     → m ≡ length (ended r)
@@ -61,7 +62,7 @@ pub finish-one : (r : Run) (out : List ℕ) (m n : ℕ) (x y : List ℕ)
     → n ≡ length (ended r)
     → y ≡ sets out 0 (ended r)
     → (m ≡ n) × (x ≡ y)
-finish-one r out m n x y p q u v = (p ∙ sym u, q ∙ sym v)
+finish-one r out m n x y p q u v = (one p u, one q v)
 
 pub start-one : (r s : Run) → r ≡ starting → s ≡ starting → r ≡ s
-start-one r s p q = p ∙ sym q
+start-one r s = one

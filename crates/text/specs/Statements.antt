@@ -1,5 +1,5 @@
 -- What is proved of the lines that are printed, for a reader who knows the definitions and no proof.
-use mathlib.Core.Path.{_≡_, refl, sym, _∙_}
+use mathlib.Core.Path.{_≡_, refl}
 use mathlib.Core.Bool.{true}
 use mathlib.Core.List.{List, [], _∷_}
 use Prim.Native.Nat.{ℕ, _+_, _≤_}
@@ -9,6 +9,7 @@ use Rattle.model.specs.declared.Table.{Table}
 use Rattle.model.specs.Good.{good}
 use Rattle.model.specs.Event.{numberOf, event}
 use Rattle.model.specs.Laws.Paid.{no-port}
+use Rattle.model.specs.Statements.{one}
 use Rattle.lines.specs.Line.{space, valueOf}
 use Rattle.text.specs.Text.{decimal, pointText}
 use Rattle.text.specs.Laws.Value.{read-back}
@@ -30,4 +31,4 @@ pub put-one : (out text : List ℕ) (at m n : ℕ) (x y : List ℕ)
     → n ≡ at + length text
     → y ≡ sets out at text
     → (m ≡ n) × (x ≡ y)
-put-one out text at m n x y p q u v = (p ∙ sym u, q ∙ sym v)
+put-one out text at m n x y p q u v = (one p u, one q v)

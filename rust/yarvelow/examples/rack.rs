@@ -1,10 +1,28 @@
 //! The loop of a controller at D = 3: all ports enter, and each that is in a passage makes a step in its turn. A port that waits answers `Ok` again and again,
 //! so the others are stepped in between. One that is inside does its work, here one crash and one line, and leaves; it is stepped on until it is idle, since
 //! nobody else gets in before it has let go.
+//!
+//! Left out here: a controller makes the fresh table once, keeps the image where it outlives a restart, and begins with `Lock::open`, which checks it; its
+//! recorders take their time between `Inside` and `Leave`, and it does not end at a refusal. README, 'Before you build on it', says what else it does.
 
-use yarvelow::{made_place, point_place, Event, Lock, Refusal};
+use yarvelow::{
+    go_place, made_place, point_place, status_place, Event, Lock, Refusal, OWNER_PLACE, SPIN_PLACE,
+    TAKEN_PLACE,
+};
 
 const PORTS: usize = 3;
+
+fn spin_at(image: &[u8], place: usize) -> u16 {
+    u16::from_le_bytes([image[place], image[place + 1]])
+}
+
+/// The word was left naming a port that will not come (docs/STUCK.md): nobody else would get in.
+fn left_behind(image: &[u8]) -> bool {
+    let owner = image[OWNER_PLACE] as usize;
+    image[TAKEN_PLACE] == 1
+        && (image[point_place(owner)] == 0
+            || spin_at(image, SPIN_PLACE) != spin_at(image, go_place(owner)))
+}
 
 fn main() -> Result<(), Refusal> {
     let mut lock = Lock::fresh(PORTS as u64)?;
@@ -12,7 +30,7 @@ fn main() -> Result<(), Refusal> {
         lock.event(port, Event::Enter)?;
     }
     let mut crashed = false;
-    loop {
+    while !left_behind(lock.image()) {
         let busy: Vec<_> = (0..PORTS)
             .filter(|&k| lock.image()[point_place(k)] != 0)
             .map(|k| k as u64)
@@ -30,15 +48,17 @@ fn main() -> Result<(), Refusal> {
                     } else {
                         crashed = true;
                         lock.event(port, Event::Crash)?;
-                        println!("port {port} crashed");
+                        println!(
+                            "port {port} crashed, STATUS {}",
+                            lock.image()[status_place(port as usize)]
+                        );
                     }
                 }
                 Err(refusal) => return Err(refusal),
             }
         }
     }
-    let made = &lock.image()[made_place(0)..][..2];
-    let made = u16::from_le_bytes([made[0], made[1]]);
+    let made = spin_at(lock.image(), made_place(0));
     println!("all are home; port 0 has made {made} of 65535 spins");
     Ok(())
 }

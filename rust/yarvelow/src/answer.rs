@@ -13,9 +13,9 @@ pub enum Refusal {
     NoSuchPort = 2,
     /// Event not 1 to 5.
     NoSuchEvent = 3,
-    /// Enter, and the port is in a passage.
+    /// Enter, and the port isn't idle.
     Busy = 4,
-    /// Enter, and the port has made all its 65,535 spins, at most one for a passage.
+    /// Enter, and the port has made all its 65,535 spins, at most one from an enter to the next idle; or a step at point 4 then, which no fresh table comes to.
     Worn = 5,
     /// Leave, and the port isn't inside.
     NotInside = 6,

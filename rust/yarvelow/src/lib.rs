@@ -50,17 +50,33 @@ pub const fn image_length(d: usize) -> usize {
     30 + 22 * d
 }
 
+/// The byte of an image that says whether the lock word is taken (1) or free (0).
+pub const TAKEN_PLACE: usize = 22;
+
+/// The byte of an image that is the lock word's owner.
+pub const OWNER_PLACE: usize = 23;
+
+/// The first of the two bytes of an image, the low one first, that are the owner's spin for which the lock word is taken.
+pub const SPIN_PLACE: usize = 24;
+
 /// The byte of an image that is the point of port `k`: 0 while it is idle, 11 while it is inside.
 ///
 /// ```
-/// use yarvelow::{point_place, Event, Lock};
+/// use yarvelow::*;
 ///
-/// # fn main() -> Result<(), yarvelow::Refusal> {
+/// # fn main() -> Result<(), Refusal> {
 /// let mut lock = Lock::fresh(2)?;
+/// assert_eq!(lock.image()[TAKEN_PLACE], 0);
 /// lock.event(1, Event::Enter)?;
 /// while lock.event(1, Event::Step).is_ok() {}
-/// assert_eq!(lock.image()[point_place(0)], 0);
-/// assert_eq!(lock.image()[point_place(1)], 11);
+/// let image = lock.image();
+/// assert_eq!((image[TAKEN_PLACE], image[OWNER_PLACE]), (1, 1));
+/// assert_eq!((image[point_place(0)], image[point_place(1)]), (0, 11));
+/// assert_eq!((image[status_place(0)], image[status_place(1)]), (0, 1));
+/// // Port 1 has made its first spin, and the word is taken for it.
+/// for place in [SPIN_PLACE, made_place(1), go_place(1)] {
+///     assert_eq!(image[place..][..2], [1, 0]);
+/// }
 /// # Ok(())
 /// # }
 /// ```
@@ -68,58 +84,36 @@ pub const fn point_place(k: usize) -> usize {
     26 + 16 * k
 }
 
-/// The byte of an image that says whether the lock word is taken (1) or free (0).
-///
-/// ```
-/// use yarvelow::{Event, Lock, OWNER_PLACE, TAKEN_PLACE};
-///
-/// # fn main() -> Result<(), yarvelow::Refusal> {
-/// let mut lock = Lock::fresh(2)?;
-/// assert_eq!(lock.image()[TAKEN_PLACE], 0);
-/// lock.event(1, Event::Enter)?;
-/// while lock.event(1, Event::Step).is_ok() {}
-/// assert_eq!(lock.image()[TAKEN_PLACE], 1);
-/// assert_eq!(lock.image()[OWNER_PLACE], 1);
-/// # Ok(())
-/// # }
-/// ```
-pub const TAKEN_PLACE: usize = 22;
-
-/// The byte of an image that is the lock word's owner.
-pub const OWNER_PLACE: usize = 23;
+/// The byte of an image that is the STATUS of port `k`: 1 while it holds the lock, crashes included.
+pub const fn status_place(k: usize) -> usize {
+    point_place(k) + 1
+}
 
 /// The first of the two bytes of an image, the low one first, that say how many spins port `k` has made.
-///
-/// ```
-/// use yarvelow::{made_place, Event, Lock};
-///
-/// # fn main() -> Result<(), yarvelow::Refusal> {
-/// let mut lock = Lock::fresh(2)?;
-/// lock.event(1, Event::Enter)?;
-/// while lock.event(1, Event::Step).is_ok() {}
-/// assert_eq!(lock.image()[made_place(0)..][..2], [0, 0]);
-/// assert_eq!(lock.image()[made_place(1)..][..2], [1, 0]);
-/// # Ok(())
-/// # }
-/// ```
 pub const fn made_place(k: usize) -> usize {
-    30 + 16 * k
+    point_place(k) + 4
+}
+
+/// The first of the two bytes of an image, the low one first, that are GO of port `k`: the spin that it has on its way, 0 for none.
+pub const fn go_place(k: usize) -> usize {
+    point_place(k) + 6
 }
 
 /// An event at a port.
 #[derive(Clone, Copy, Debug, PartialEq, Eq, Hash)]
 #[repr(u64)]
 pub enum Event {
-    /// E: an idle port begins a passage.
+    /// E: an idle port begins: step it until it is inside.
     Enter = 1,
     /// S: at most one memory operation; the only event that costs anything.
     Step = 2,
     /// X: the port forgets where it was; if it was inside, its next step brings it back there, and else step it until it is inside or idle: others may
     /// wait for it.
     Crash = 3,
-    /// A: the port is to give up waiting: step it until it is idle, or inside if its turn came first.
+    /// A: the port is to give up waiting, crashes notwithstanding: step it until it is idle, or inside if its turn came first.
     CallOff = 4,
-    /// L: a port that is inside begins to leave: step it until it is idle. It is out with its next step, but nobody else gets in before it has let go.
+    /// L: a port that is inside begins to leave. It is out with its first step after this; step it on until it is idle, since nobody else gets in before it has
+    /// let go.
     Leave = 5,
 }
 
