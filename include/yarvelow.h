@@ -42,8 +42,8 @@ enum yarvelow_order {
                               step it until it is inside or idle: others may wait for it */
     YARVELOW_CALL_OFF = 4, /* the port is to give up waiting, crashes notwithstanding: step it until it is idle, or inside if
                               its turn came first */
-    YARVELOW_LEAVE = 5     /* a port that is inside begins to leave. It is out with its first step after this; step it on until
-                              it is idle, since nobody else gets in before it has let go */
+    YARVELOW_LEAVE = 5     /* a port that is inside begins to leave. It is out with its next step (a crash before that step leads
+                              back inside); step it on until it is idle, since nobody else gets in before it has let go */
 };
 
 /* Numbers of an answer. */

@@ -1,6 +1,6 @@
 /* The loop of a controller at D = 3: all ports enter, and each that is in a passage makes a step in its turn. A port that waits
- * answers DONE again and again, so the others are stepped in between. One that is inside does its work, here one crash and one
- * line, and leaves; it is stepped on until it is idle, since nobody else gets in before it has let go.
+ * answers DONE again and again, so the others are stepped in between. One that is inside does its work, here one line and for
+ * the first a crash, and leaves; it is stepped on until it is idle, since nobody else gets in before it has let go.
  *
  * Left out here: a controller makes the fresh table once, keeps the image where it outlives a restart, and begins with
  * yarvelow_check; its recorders take their time between INSIDE and LEAVE, and it does not end at a refusal. README, 'Before you

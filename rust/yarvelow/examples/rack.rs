@@ -1,5 +1,5 @@
 //! The loop of a controller at D = 3: all ports enter, and each that is in a passage makes a step in its turn. A port that waits answers `Ok` again and again,
-//! so the others are stepped in between. One that is inside does its work, here one crash and one line, and leaves; it is stepped on until it is idle, since
+//! so the others are stepped in between. One that is inside does its work, here one line and for the first a crash, and leaves; it is stepped on until it is idle, since
 //! nobody else gets in before it has let go.
 //!
 //! Left out here: a controller makes the fresh table once, keeps the image where it outlives a restart, and begins with `Lock::open`, which checks it; its
@@ -30,7 +30,11 @@ fn main() -> Result<(), Refusal> {
         lock.event(port, Event::Enter)?;
     }
     let mut crashed = false;
-    while !left_behind(lock.image()) {
+    loop {
+        if left_behind(lock.image()) {
+            eprintln!("the word is left behind");
+            std::process::exit(1);
+        }
         let busy: Vec<_> = (0..PORTS)
             .filter(|&k| lock.image()[point_place(k)] != 0)
             .map(|k| k as u64)

@@ -112,8 +112,8 @@ pub enum Event {
     Crash = 3,
     /// A: the port is to give up waiting, crashes notwithstanding: step it until it is idle, or inside if its turn came first.
     CallOff = 4,
-    /// L: a port that is inside begins to leave. It is out with its first step after this; step it on until it is idle, since nobody else gets in before it has
-    /// let go.
+    /// L: a port that is inside begins to leave. It is out with its next step (a crash before that step leads back inside); step it on until it is idle, since
+    /// nobody else gets in before it has let go.
     Leave = 5,
 }
 
