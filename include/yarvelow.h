@@ -69,6 +69,14 @@ static inline size_t yarvelow_length_of(uint64_t answer) { return (size_t)(answe
 static inline unsigned yarvelow_cached_of(uint64_t answer) { return (unsigned)(answer >> 8 & 255); }
 static inline unsigned yarvelow_distributed_of(uint64_t answer) { return (unsigned)(answer >> 16); }
 
+/* Whether the lock word of a good image was left naming a port that will not come (docs/STUCK.md): it is taken, and its owner is
+ * at point 0 or its spin is not the owner's GO. Nobody is inside then, and nobody gets in. */
+static inline int yarvelow_left_behind(const uint8_t *image) {
+    const uint8_t *spin = image + YARVELOW_SPIN, *go = image + YARVELOW_GO(image[YARVELOW_OWNER]);
+    return image[YARVELOW_TAKEN] == 1 &&
+           (image[YARVELOW_POINT(image[YARVELOW_OWNER])] == 0 || spin[0] != go[0] || spin[1] != go[1]);
+}
+
 /* Writes the image of a fresh table of d ports at the start of room. Answers number + 256 * the image's length. Refused
  * (BAD_SIZE, then SHORT_ROOM) it leaves every byte, and the length is 0; done, it leaves the bytes after the image. */
 uint64_t yarvelow_fresh(uint64_t d, uint8_t *room, size_t length);

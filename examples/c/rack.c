@@ -28,15 +28,6 @@ static unsigned carry_out(uint64_t port, uint64_t event, unsigned expected) {
     return number;
 }
 
-static unsigned spin_at(size_t place) { return image[place] + 256u * image[place + 1]; }
-
-/* The word was left naming a port that will not come (docs/STUCK.md): nobody else would get in. */
-static int left_behind(void) {
-    unsigned owner = image[YARVELOW_OWNER];
-    return image[YARVELOW_TAKEN] == 1 &&
-           (image[YARVELOW_POINT(owner)] == 0 || spin_at(YARVELOW_SPIN) != spin_at(YARVELOW_GO(owner)));
-}
-
 int main(void) {
     if (yarvelow_number_of(yarvelow_fresh(PORTS, image, sizeof image)) != YARVELOW_DONE) {
         return 1;
@@ -46,7 +37,7 @@ int main(void) {
     }
     int crashed = 0;
     for (unsigned home = 0; home < PORTS;) {
-        if (left_behind()) {
+        if (yarvelow_left_behind(image)) {
             return 1;
         }
         home = 0;
@@ -65,6 +56,6 @@ int main(void) {
             }
         }
     }
-    printf("all are home; port 0 has made %u of 65535 spins\n", spin_at(YARVELOW_MADE(0)));
+    printf("all are home; port 0 has made %u of 65535 spins\n", image[YARVELOW_MADE(0)] + 256u * image[YARVELOW_MADE(0) + 1]);
     return yarvelow_check(image, sizeof image) == YARVELOW_DONE ? 0 : 1;
 }

@@ -1,16 +1,7 @@
 //! The sign of a word that is left behind (docs/STUCK.md): it stands at the end of the schedules that leave one, from the event on that does, and in no other.
 
 use std::{fs, path::Path};
-use yarvelow::{
-    event, fresh, go_place, point_place, Event, LONGEST, OWNER_PLACE, SPIN_PLACE, TAKEN_PLACE,
-};
-
-fn left_behind(image: &[u8]) -> bool {
-    let owner = image[OWNER_PLACE] as usize;
-    image[TAKEN_PLACE] == 1
-        && (image[point_place(owner)] == 0
-            || image[SPIN_PLACE..][..2] != image[go_place(owner)..][..2])
-}
+use yarvelow::{event, fresh, left_behind, Event, LONGEST};
 
 /// The event after which the sign stands until the end of a schedule, if it does at its end.
 fn left_at(schedule: &str) -> Option<usize> {

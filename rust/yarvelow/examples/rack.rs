@@ -5,24 +5,9 @@
 //! Left out here: a controller makes the fresh table once, keeps the image where it outlives a restart, and begins with `Lock::open`, which checks it; its
 //! recorders take their time between `Inside` and `Leave`, and it does not end at a refusal. README, 'Before you build on it', says what else it does.
 
-use yarvelow::{
-    go_place, made_place, point_place, status_place, Event, Lock, Refusal, OWNER_PLACE, SPIN_PLACE,
-    TAKEN_PLACE,
-};
+use yarvelow::{left_behind, made_place, point_place, status_place, Event, Lock, Refusal};
 
 const PORTS: usize = 3;
-
-fn spin_at(image: &[u8], place: usize) -> u16 {
-    u16::from_le_bytes([image[place], image[place + 1]])
-}
-
-/// The word was left naming a port that will not come (docs/STUCK.md): nobody else would get in.
-fn left_behind(image: &[u8]) -> bool {
-    let owner = image[OWNER_PLACE] as usize;
-    image[TAKEN_PLACE] == 1
-        && (image[point_place(owner)] == 0
-            || spin_at(image, SPIN_PLACE) != spin_at(image, go_place(owner)))
-}
 
 fn main() -> Result<(), Refusal> {
     let mut lock = Lock::fresh(PORTS as u64)?;
@@ -62,7 +47,8 @@ fn main() -> Result<(), Refusal> {
             }
         }
     }
-    let made = spin_at(lock.image(), made_place(0));
+    let made = &lock.image()[made_place(0)..][..2];
+    let made = u16::from_le_bytes([made[0], made[1]]);
     println!("all are home; port 0 has made {made} of 65535 spins");
     Ok(())
 }

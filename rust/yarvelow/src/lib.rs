@@ -99,6 +99,26 @@ pub const fn go_place(k: usize) -> usize {
     point_place(k) + 6
 }
 
+/// Whether the lock word of a good image was left naming a port that will not come (docs/STUCK.md): it is taken, and its owner is at point 0 or its spin is not
+/// the owner's GO. Nobody is inside then, and nobody gets in. Panics where the bytes are no image.
+///
+/// ```
+/// use yarvelow::{left_behind, Event, Lock};
+///
+/// # fn main() -> Result<(), yarvelow::Refusal> {
+/// let mut lock = Lock::fresh(2)?;
+/// lock.event(1, Event::Enter)?;
+/// while lock.event(1, Event::Step).is_ok() {}
+/// assert!(!left_behind(lock.image()));
+/// # Ok(())
+/// # }
+/// ```
+pub fn left_behind(image: &[u8]) -> bool {
+    let owner = usize::from(image[OWNER_PLACE]);
+    let (spin, go) = (&image[SPIN_PLACE..][..2], &image[go_place(owner)..][..2]);
+    image[TAKEN_PLACE] == 1 && (image[point_place(owner)] == 0 || spin != go)
+}
+
 /// An event at a port.
 #[derive(Clone, Copy, Debug, PartialEq, Eq, Hash)]
 #[repr(u64)]
