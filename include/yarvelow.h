@@ -1,6 +1,6 @@
 /* The lock engine of document 01 from C: the table of one lock with D ports, 1 to 64, kept as an image in memory of yours.
  *
- * Link with the archive libcabi.a. Every function answers on every input: bytes of any kind, any length, any number. None
+ * Link with the archive libyarvelow.a. Every function answers on every input: bytes of any kind, any length, any number. None
  * keeps a pointer, allocates, or touches memory outside the buffers that it is lent. The buffers of one call must not
  * overlap, and calls on one image come one at a time. A call that is cut off, by a controller that stops, may leave the image
  * that it writes half written; yarvelow_event_into never writes the one that holds.

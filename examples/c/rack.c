@@ -6,8 +6,8 @@
  * yarvelow_check; its recorders take their time between INSIDE and LEAVE, and it does not end at a refusal. README, 'Before you
  * build on it', says what else it does.
  *
- *     tools/native staticlib cabi libcabi.a
- *     cc -Iinclude examples/c/rack.c libcabi.a -o rack && ./rack
+ *     tools/native staticlib cabi libyarvelow.a
+ *     cc -Iinclude examples/c/rack.c libyarvelow.a -o rack && ./rack
  */
 
 #include <stdio.h>

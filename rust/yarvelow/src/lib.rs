@@ -1,6 +1,6 @@
 //! The lock engine of document 01 from Rust: the table of one lock with D ports, up to 64, kept as an image in memory.
 //!
-//! The engine is proved; it comes as the archive `libcabi.a`, and the environment variable `YARVELOW_LIB` names the archive's directory when this crate is
+//! The engine is proved; it comes as the archive `libyarvelow.a`, and the environment variable `YARVELOW_LIB` names the archive's directory when this crate is
 //! built. A [`Lock`] holds an image of a good table, in bytes of its own or in lent ones that outlive a restart. The
 //! functions [`fresh`], [`check`], [`event`], [`event_into`] and [`run`] work on plain buffers.
 //!
