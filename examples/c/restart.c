@@ -78,7 +78,6 @@ static void take_up(const char *name) {
         file = open(name, O_RDWR);
     }
     must(file >= 0, "the lock cannot be opened");
-    must(lockf(file, F_TLOCK, 0) == 0, "another controller has the lock's file");
     struct stat is;
     must(fstat(file, &is) == 0 && is.st_size == sizeof *kept, "the lock is damaged");
     kept = mmap(NULL, sizeof *kept, PROT_READ | PROT_WRITE, MAP_SHARED, file, 0);
@@ -126,6 +125,8 @@ int main(int count, char **words) {
     must(count == 4, "LOCK JOURNAL ENTRIES");
     unsigned wanted = (unsigned)strtoul(words[3], NULL, 10);
     journal = open(words[2], O_RDWR | O_CREAT, 0644);
+    /* One controller at a time; the system lets go of it when the program ends. */
+    must(lockf(journal, F_TLOCK, 0) == 0, "another controller has the journal");
     take_up(words[1]);
     /* CRASH for every port whose recorder is gone: here all are, with this program. One that lives on needs none. */
     for (uint64_t port = 0; port < PORTS; port++) {

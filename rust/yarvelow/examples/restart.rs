@@ -66,7 +66,6 @@ impl Kept {
             }
             file => file?,
         };
-        file.try_lock()?;
         let mut kept = Kept {
             file,
             holds: 0,
@@ -177,6 +176,8 @@ fn main() -> Done {
     };
     let wanted = wanted.parse()?;
     let journal = open(journal, true)?;
+    // One controller at a time; the system lets go of it when the program ends.
+    journal.try_lock()?;
     let mut rack = Rack {
         kept: Kept::take_up(lock, entries(&journal)? == 0)?,
         journal,
