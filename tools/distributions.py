@@ -12,7 +12,7 @@ COLOURS, MEDIAN, AXIS = ("#64b5f6", "#ce93d8", "#e57373"), "#b71c1c", "#455a64"
 WAIT = "#ffca28"
 # An axis has at least so many numbers, so that one bar alone does not fill the panel.
 FEWEST = 10
-MOST_BARS, MOST_NUMBERS, MOST_LEVELS = 70, 8, 4
+MOST_BARS, MOST_NUMBERS, MOST_LEVELS = 70, 8, 5
 
 
 def three(counts):
