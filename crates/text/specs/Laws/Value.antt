@@ -1,12 +1,13 @@
--- The digits of a number stand for it, and its first is no 0 unless it is the only one.
+-- The digits of a number stand for it; they are digits, and the first is no 0 unless it is the only one.
 use mathlib.Core.Path.{_≡_, refl}
 use mathlib.Core.Bool.{Bool, true, false}
 use mathlib.Core.List.{List, [], _∷_, _++_, foldl-append}
 use Prim.Native.Nat.{ℕ, zero, suc, _+_, _-_, _*_, _/_, _%_, _<_}
 use native.Mathlib.Omega.{arith}
-use borrow.Author.Tests.{ltb-true, ltb-false}
+use borrow.Author.Tests.{ltb-true, ltb-false, le-leb}
 use lib.Dec.{ltb}
-use Rattle.lines.specs.Line.{nought, valueOf}
+use lib.ListN.{length, getD}
+use Rattle.lines.specs.Line.{nought, digit, valueOf}
 use Rattle.text.specs.Text.{decimal}
 use Rattle.text.specs.Laws.Decimal.{digits-one, digits-next}
 
@@ -26,3 +27,46 @@ read-in (suc turns) n h = go (ltb n 10) refl (λ k. read-in turns (n / 10) k)
 
 pub read-back : (n : ℕ) → valueOf (decimal n) ≡ n
 read-back n = read-in (suc n) n (omega arith)
+
+-- every byte of it is a digit
+is-digit : (d : ℕ) → d < 10 → digit (nought + d) ≡ true
+is-digit d h = rw (le-leb nought (nought + d) (omega arith), le-leb (nought + d) 57 (omega arith))
+
+and-digit : (ds : List ℕ) (d : ℕ) → ((i : ℕ) → i < length ds → digit (getD ds i 0) ≡ true) → digit d ≡ true
+    → (i : ℕ) → i < length (ds ++ d ∷ []) → digit (getD (ds ++ d ∷ []) i 0) ≡ true
+and-digit [] d f e zero h = e
+and-digit [] d f e (suc i) h = absurd (omega arith)
+and-digit (x ∷ ds) d f e zero h = f 0 (omega arith)
+and-digit (x ∷ ds) d f e (suc i) h = and-digit ds d (λ j l. f (suc j) (omega (arith, l))) e i (omega (arith, h))
+
+digits-in : (turns n : ℕ) → n < turns → (i : ℕ) → i < length (decimal n) → digit (getD (decimal n) i 0) ≡ true
+digits-in zero n h = absurd (omega arith)
+digits-in (suc turns) n h = go (ltb n 10) refl (λ k. digits-in turns (n / 10) k)
+  where
+    go : (b : Bool) → ltb n 10 ≡ b → (n / 10 < turns → (i : ℕ) → i < length (decimal (n / 10)) → digit (getD (decimal (n / 10)) i 0) ≡ true)
+        → (i : ℕ) → i < length (decimal n) → digit (getD (decimal n) i 0) ≡ true
+    go true e q = rw (digits-one n (ltb-true n 10 e)) (and-digit [] (nought + n) (λ j l. absurd (omega (arith, l))) (is-digit n (ltb-true n 10 e)))
+    go false e q =
+        let l = ltb-false n 10 e in
+        rw (digits-next n l) (and-digit (decimal (n / 10)) (nought + n % 10) (q (omega (arith, l))) (is-digit (n % 10) (omega arith)))
+
+pub all-digits : (n i : ℕ) → i < length (decimal n) → digit (getD (decimal n) i 0) ≡ true
+all-digits n = digits-in (suc n) n (omega arith)
+
+-- the first digit of a number above 0 is above 0
+still-first : (ds es : List ℕ) → nought < getD ds 0 0 → nought < getD (ds ++ es) 0 0
+still-first [] es h = absurd (omega arith)
+still-first (d ∷ ds) es h = h
+
+first-in : (turns n : ℕ) → n < turns → 0 < n → nought < getD (decimal n) 0 0
+first-in zero n h p = absurd (omega arith)
+first-in (suc turns) n h p = go (ltb n 10) refl (λ k l. first-in turns (n / 10) k l)
+  where
+    go : (b : Bool) → ltb n 10 ≡ b → (n / 10 < turns → 0 < n / 10 → nought < getD (decimal (n / 10)) 0 0) → nought < getD (decimal n) 0 0
+    go true e q = rw (digits-one n (ltb-true n 10 e)) (omega arith)
+    go false e q =
+        let l = ltb-false n 10 e in
+        rw (digits-next n l) (still-first (decimal (n / 10)) _ (q (omega (arith, l)) (omega (arith, l))))
+
+pub first-above : (n : ℕ) → 0 < n → nought < getD (decimal n) 0 0
+first-above n = first-in (suc n) n (omega arith)
