@@ -1,12 +1,13 @@
--- The digits of a number stand for it; they are digits, and the first is no 0 unless it is the only one.
-use mathlib.Core.Path.{_≡_, refl}
-use mathlib.Core.Bool.{Bool, true, false}
-use mathlib.Core.List.{List, [], _∷_, _++_, foldl-append}
-use Prim.Native.Nat.{ℕ, zero, suc, _+_, _-_, _*_, _/_, _%_, _<_}
+-- The digits of a number stand for it; they are digits, and the first is no 0 unless it is the only one; and no other digits do.
+use mathlib.Core.Path.{_≡_, refl, sym, ap, _∙_}
+use mathlib.Core.Bool.{Bool, true, false, and-eq-true-iff}
+use mathlib.Core.List.{List, [], _∷_, _++_, foldl, foldl-append, append-nil}
+use Prim.Native.Nat.{ℕ, zero, suc, _+_, _-_, _*_, _/_, _%_, _≤_, _<_}
 use native.Mathlib.Omega.{arith}
-use borrow.Author.Tests.{ltb-true, ltb-false, le-leb}
-use lib.Dec.{ltb}
+use borrow.Author.Tests.{ltb-true, ltb-false, leb-true, le-leb}
+use lib.Dec.{ltb, leb}
 use lib.ListN.{length, getD}
+use lib.Seq.{append-snoc}
 use Rattle.lines.specs.Line.{nought, digit, valueOf}
 use Rattle.text.specs.Text.{decimal}
 use Rattle.text.specs.Laws.Decimal.{digits-one, digits-next}
@@ -70,3 +71,29 @@ first-in (suc turns) n h p = go (ltb n 10) refl (λ k l. first-in turns (n / 10)
 
 pub first-above : (n : ℕ) → 0 < n → nought < getD (decimal n) 0 0
 first-above n = first-in (suc n) n (omega arith)
+
+-- digits after those of a number above 0 are printed after them
+range : (d : ℕ) → digit d ≡ true → (nought ≤ d) × (d ≤ 57)
+range d h = let p = and-eq-true-iff (leb nought d) (leb d 57) .0 h in (leb-true nought d (p .0), leb-true d 57 (p .1))
+
+digits-after : (v : ℕ) (ds : List ℕ) → 0 < v → ((i : ℕ) → i < length ds → digit (getD ds i 0) ≡ true)
+    → decimal (foldl (λ n d. 10 * n + (d - nought)) v ds) ≡ decimal v ++ ds
+digits-after v [] h f = sym (append-nil (decimal v))
+digits-after v (d ∷ ds) h f =
+    let b = range d (f 0 (omega arith)) in
+    let w = 10 * v + (d - nought) in
+    let q : w / 10 ≡ v = omega (arith, b) in
+    let r : nought + w % 10 ≡ d = omega (arith, b) in
+    let n : decimal w ≡ decimal v ++ d ∷ [] = digits-next w (omega arith) ∙ rw (q, r) in
+    digits-after w ds (omega arith) (λ i k. f (suc i) (omega (arith, k)))
+    ∙ ap (λ (es : List ℕ). es ++ ds) n
+    ∙ append-snoc (decimal v) d ds
+
+pub other-form : (ds : List ℕ) → ((i : ℕ) → i < length ds → digit (getD ds i 0) ≡ true) → nought < getD ds 0 0 → decimal (valueOf ds) ≡ ds
+other-form [] f h = absurd (omega arith)
+other-form (d ∷ ds) f h =
+    let b = range d (f 0 (omega arith)) in
+    let w = 10 * 0 + (d - nought) in
+    let r : nought + w ≡ d = omega (arith, b) in
+    let n : decimal w ≡ d ∷ [] = digits-one w (omega (arith, b)) ∙ rw r in
+    digits-after w ds (omega (arith, h)) (λ i k. f (suc i) (omega (arith, k))) ∙ ap (λ (es : List ℕ). es ++ ds) n
