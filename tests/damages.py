@@ -1,4 +1,4 @@
-"""Counts the answers of a reader to every one-byte damage of one image of D = 2, straight from document 01.
+"""Counts the answers of a reader to every one-byte damage of one image of D = 2, straight from document 01 and request R-1.
 
 The numbers that it prints stand in crates/vectors/stdout. It also reads images.txt, as a check of itself.
 """
@@ -30,22 +30,24 @@ def row(data, at, widths):
 
 def answer(data):
     """The number that the reader answers."""
-    if len(data) < 14 or data[0] != 1 or not 1 <= data[1] <= 16:
+    if len(data) < 14 or not 1 <= data[1] <= 64:
         return 11
     d = data[1]
-    if len(data) != 30 + 22 * d:
+    version, width = (1, 2) if d <= 16 else (2, 8)
+    sets = width * (2 + 3 * d)
+    if data[0] != version or len(data) != 26 + 16 * d + sets:
         return 11
-    if row(data, 2, [2] * 6) != [14, 12, 26, 16 * d, 26 + 16 * d, 4 + 6 * d]:
+    if row(data, 2, [2] * 6) != [14, 12, 26, 16 * d, 26 + 16 * d, sets]:
         return 11
-    return 0 if good(data, d) else 1
+    return 0 if good(data, d, width) else 1
 
 
-def good(data, d):
+def good(data, d, width):
     active, taken, owner, spin = row(data, 14, [8, 1, 1, 2])
     ports = [row(data, 26 + 16 * k, PORT) for k in range(d)]
     made = [p[4] for p in ports]
-    shared = row(data, 26 + 16 * d, [2, 2])
-    copies = [row(data, 30 + 16 * d + 6 * k, [2, 2, 2]) for k in range(d)]
+    shared = row(data, 26 + 16 * d, [width] * 2)
+    copies = [row(data, 26 + 16 * d + width * (2 + 3 * k), [width] * 3) for k in range(d)]
     if taken > 1 or owner >= d or spin > made[owner]:
         return False
     if any(m >> d for m in [active, *shared, *sum(copies, [])]):

@@ -122,27 +122,43 @@ pub fn fresh(d: u64) -> Made
 pub fn refusal(event: u64, p: Port) -> Answer
     ensures { λ r. ⌜ r ≡ Event.firstOf (Event.refusals event p) ⌝ }
 {
-    if !((1 <= event) & (event <= 5)) {
-        return Answer::NoSuchEvent;
+    let point = p.point;
+    match event {
+        ENTER => {
+            if point != 0 {
+                return Answer::Busy;
+            }
+            if p.made == good::MOST {
+                return Answer::Worn;
+            }
+            Answer::Done
+        }
+        STEP => {
+            if (point == 4) & (p.made == good::MOST) {
+                return Answer::Worn;
+            }
+            if point == 0 {
+                return Answer::Idle;
+            }
+            if point == 11 {
+                return Answer::Inside;
+            }
+            Answer::Done
+        }
+        CRASH | CALL_OFF => {
+            if point == 0 {
+                return Answer::Idle;
+            }
+            Answer::Done
+        }
+        LEAVE => {
+            if point != 11 {
+                return Answer::NotInside;
+            }
+            Answer::Done
+        }
+        _ => Answer::NoSuchEvent,
     }
-    if (event == ENTER) & !(p.point == 0) {
-        return Answer::Busy;
-    }
-    if (((event == ENTER) & (p.point == 0)) | ((event == STEP) & (p.point == 4)))
-        & (p.made == good::MOST)
-    {
-        return Answer::Worn;
-    }
-    if (event == LEAVE) & !(p.point == 11) {
-        return Answer::NotInside;
-    }
-    if ((event == STEP) | (event == CRASH) | (event == CALL_OFF)) & (p.point == 0) {
-        return Answer::Idle;
-    }
-    if (event == STEP) & (p.point == 11) {
-        return Answer::Inside;
-    }
-    Answer::Done
 }
 
 // What a step needs of its port.

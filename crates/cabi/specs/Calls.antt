@@ -1,12 +1,13 @@
 -- The calls from C and Rust, over images in lent buffers: what each answers, in document 01's numbers, and what stands in each buffer after it.
-use mathlib.Core.Bool.{cond}
+use mathlib.Core.Bool.{cond, _&&_}
 use mathlib.Core.List.{List, [], _∷_, foldl}
 use Prim.Native.Nat.{ℕ, _+_, _*_}
-use lib.Dec.{eqb}
+use lib.Dec.{eqb, ltb}
 use lib.ListN.{length}
 use lib.Seq.{sets}
 use Rattle.model.specs.declared.Outcome.{Outcome}
 use Rattle.model.specs.declared.Answer.{Answer}
+use Rattle.model.specs.declared.Answer.the-variants.{ShortRoom}
 use Rattle.model.specs.Cost.{free}
 use Rattle.model.specs.Event.{numberOf, fresh, event}
 use Rattle.model.specs.Run.{Order, codeOf}
@@ -35,6 +36,16 @@ eventCall image k e = codeOf (eventOn image k e)
 
 unfoldable pub eventImage : List ℕ → ℕ → ℕ → List ℕ
 eventImage image k e = cond (eqb (numberOf (eventOn image k e .answer)) 0) (encode (eventOn image k e .table)) image
+
+-- yarvelow_event_into: the same refusals, then SHORT ROOM. Done, the image of the table after the event at the start of `next`; else `next` as it was
+abbrev pub intoOn : List ℕ → ℕ → ℕ → ℕ → Outcome
+intoOn image n k e = cond (eqb (numberOf (eventOn image k e .answer)) 0 && ltb n (length image)) (free ShortRoom (eventOn image k e .table)) (eventOn image k e)
+
+unfoldable pub intoCall : List ℕ → ℕ → ℕ → ℕ → ℕ
+intoCall image n k e = codeOf (intoOn image n k e)
+
+unfoldable pub intoNext : List ℕ → List ℕ → ℕ → ℕ → List ℕ
+intoNext image next k e = roomAfter (intoOn image (length next) k e .answer) (eventOn image k e .table) next
 
 -- that many calls of yarvelow_event, one after the other: what they answer, and the image after the last
 unfoldable pub calls : List ℕ → List Order → List ℕ

@@ -1,4 +1,4 @@
--- The definitions of the calls, and what is proved of them. What stands in Laws need not be believed.
+-- What a reader believes of the calls on images in lent buffers. The statements say what follows; `Laws` proves it.
 pub mod Calls
 pub mod Laws
 pub mod Statements

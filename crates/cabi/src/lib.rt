@@ -1,15 +1,18 @@
-// The engine for programs in C and Rust: events on images in lent buffers, with document 01's numbers.
-use image::reader;
+// The engine for programs in C and Rust: events on images in lent buffers, with document 01's numbers. No call holds a table.
+mod acts;
+
+use image::checking;
 use image::writer;
-use lock::events;
-use lock::runs;
+use rules::good;
 ghost use mathlib.Core.Path.{_≡_};
-ghost use Prim.Native.Nat.{_+_, _*_};
+ghost use Prim.Native.Nat.{_+_, _*_, min};
 ghost use lib.ListN.{length};
 ghost use Rattle.model.specs.Run.{ordersFor};
 ghost use Rattle.cabi.specs.Calls as Calls;
 
-const BAD_TABLE: u64 = 1;
+const BAD_SIZE: u64 = 9;
+
+const SHORT_ROOM: u64 = 10;
 
 // Writes the image of a fresh table of d ports: number + 256 * length. Refused (9, then 10): the room is untouched, length 0.
 #[no_mangle]
@@ -17,61 +20,65 @@ pub extern "C" fn yarvelow_fresh(d: u64, room: &mut [u8]) -> u64
     ensures { λ r. ⌜ r ≡ Calls.freshCall d (length (now (room .entry))) ⌝ }
     ensures { λ r. ⌜ now (room .exit) ≡ Calls.freshRoom d (now (room .entry)) ⌝ }
 {
-    let made = events::fresh(d);
-    let answer = made.answer;
-    let refused = answers::number(answer);
-    if refused != 0 {
-        return refused;
+    if !good::size_good(d) {
+        return BAD_SIZE;
     }
-    let table = made.table;
-    let w = writer::put(table, room);
+    let w = writer::blank(d, room);
     let a = w.answer;
     answers::number(a) + 256 * (w.length as u64)
 }
 
-// The reader's number for an image. A run of no orders looks at its table.
+// The reader's number for an image.
 #[no_mangle]
 pub extern "C" fn yarvelow_check(image: &[u8]) -> u64
     ensures { λ r. ⌜ r ≡ Calls.checkCall (now (image .entry)) ⌝ }
 {
-    let m = reader::open(image);
-    let answer = m.answer;
-    let bad = answers::number(answer);
-    if bad != 0 {
-        return bad;
-    }
-    let table = m.table;
-    let none: [u64; 1] = [0];
-    let mut places: [u64; 1] = [0];
-    let r = runs::run(table, &none, &mut places);
-    let checked = r.answer;
-    answers::number(checked)
+    checking::answer(image)
 }
 
 // An event on an image, changed where it stands: number + 256 * cached + 65536 * distributed. Refused, by the reader and then by the event: every byte is as
-// it was. It is a run of one order; BAD TABLE stands for its answer until the run answers it.
+// it was.
 #[no_mangle]
 pub extern "C" fn yarvelow_event(image: &mut [u8], port: u64, event: u64) -> u64
     ensures { λ r. ⌜ r ≡ Calls.eventCall (now (image .entry)) port event ⌝ }
     ensures { λ r. ⌜ now (image .exit) ≡ Calls.eventImage (now (image .entry)) port event ⌝ }
 {
-    let m = reader::open(image);
-    let answer = m.answer;
-    let bad = answers::number(answer);
+    let bad = checking::answer(image);
     if bad != 0 {
         return bad;
     }
-    let table = m.table;
-    let orders = [port, event];
-    let mut places = [BAD_TABLE];
-    let r = runs::run(table, &orders, &mut places);
-    let code = places[0];
-    if code % 256 != 0 {
-        return code;
+    let d = records::d_in(image);
+    acts::act_in(image, d, port, event)
+}
+
+// The same from one buffer into another: `image` is only read, and done, `next` begins with the image after the event. Refused, by the reader, then by the
+// event, then for want of room (10): every byte of `next` is as it was.
+#[no_mangle]
+pub extern "C" fn yarvelow_event_into(image: &[u8], next: &mut [u8], port: u64, event: u64) -> u64
+    ensures { λ r. ⌜ r ≡ Calls.intoCall (now (image .entry)) (length (now (next .entry))) port event ⌝ }
+    ensures { λ r. ⌜ now (next .exit) ≡ Calls.intoNext (now (image .entry)) (now (next .entry)) port event ⌝ }
+{
+    let bad = checking::answer(image);
+    if bad != 0 {
+        return bad;
     }
-    let after = r.table;
-    writer::put(after, image);
-    code
+    let d = records::d_in(image);
+    let refused = acts::refusal_in(image, d, port, event);
+    if refused != 0 {
+        return refused;
+    }
+    let n = image.len();
+    if next.len() < n {
+        return SHORT_ROOM;
+    }
+    bytes::copy(image, next);
+    acts::carry_in(&mut next[..n], d, port as u8, event)
+}
+
+fn least(a: usize, b: usize) -> usize
+    ensures { λ r. ⌜ r ≡ min a b ⌝ }
+{
+    if a < b { a } else { b }
 }
 
 // As many events on an image as there are pairs of port and event and places for their answers, with one check of its table: answers[i] is what
@@ -82,20 +89,16 @@ pub extern "C" fn yarvelow_run(image: &mut [u8], orders: &[u64], answers: &mut [
     ensures { λ r. ⌜ now (image .exit) ≡ Calls.callsImage (now (image .entry)) (ordersFor (now (orders .entry)) (now (answers .entry))) ⌝ }
     ensures { λ r. ⌜ now (answers .exit) ≡ Calls.runPlaces (now (image .entry)) (ordersFor (now (orders .entry)) (now (answers .entry))) (now (answers .entry)) ⌝ }
 {
-    let m = reader::open(image);
-    let answer = m.answer;
-    let bad = answers::number(answer);
+    let bad = checking::answer(image);
     if bad != 0 {
         return bad;
     }
-    let table = m.table;
-    let r = runs::run(table, orders, answers);
-    let ran = r.answer;
-    let refused = answers::number(ran);
-    if refused != 0 {
-        return refused;
+    let d = records::d_in(image);
+    let n = least(orders.len() / 2, answers.len());
+    let mut i: usize = 0;
+    while i < n {
+        answers[i] = acts::act_in(image, d, orders[2 * i], orders[2 * i + 1]);
+        i += 1;
     }
-    let last = r.table;
-    writer::put(last, image);
     0
 }

@@ -1,2 +1,3 @@
--- What is proved of this crate's promises.
+-- Laws of the definitions in the form in which this crate's code needs them, and what is proved of its promises.
+pub mod Single
 pub mod Statements

@@ -2,6 +2,7 @@
 use model::Cell;
 use model::Charge;
 use model::Copies;
+use model::Fee;
 use model::Kind;
 use model::Port;
 use model::Shared;
@@ -177,27 +178,37 @@ fn put_copies(cell: Cell, m: u64, c: Copies) -> Copies
     }
 }
 
-// What a touch by port k costs, and the copy sets after it; q is the port that the word belongs to, and c its copy sets.
-pub fn charge(u: Touch, k: u64, w: Work, q: Port, s: Shared, c: Copies) -> Charge
-    ensures { λ r. ⌜ r ≡ Charges.charge u (k % 64) w q s c ⌝ }
+// What a touch by port k costs, and the ports with a copy of the word after it; q is the port that the word belongs to, and m the set before.
+pub fn fee(u: Touch, k: u64, w: Work, q: Port, m: u64) -> Fee
+    ensures { λ r. ⌜ r ≡ Charges.feeOf u (k % 64) w q m ⌝ }
 {
     let cell = u.cell;
     let kind = u.kind;
     let apart = distributed(cell, k % 64, w);
     if old(cell, w, q) {
-        return Charge {
-            shared: s,
-            copies: c,
+        return Fee {
+            set: m,
             cached: 1,
             distributed: apart,
         };
     }
-    let m = holders(cell, s, c);
-    let n = copied(kind, k, m);
-    Charge {
-        shared: put_shared(cell, n, s),
-        copies: put_copies(cell, n, c),
+    Fee {
+        set: copied(kind, k, m),
         cached: cached(kind, k, m),
         distributed: apart,
+    }
+}
+
+// The same from all copy sets: what all share, and c, those of port q.
+pub fn charge(u: Touch, k: u64, w: Work, q: Port, s: Shared, c: Copies) -> Charge
+    ensures { λ r. ⌜ r ≡ Charges.charge u (k % 64) w q s c ⌝ }
+{
+    let cell = u.cell;
+    let f = fee(u, k, w, q, holders(cell, s, c));
+    Charge {
+        shared: put_shared(cell, f.set, s),
+        copies: put_copies(cell, f.set, c),
+        cached: f.cached,
+        distributed: f.distributed,
     }
 }

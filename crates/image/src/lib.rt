@@ -1,8 +1,6 @@
 // Images of tables: document 01, section 'The image'.
-mod codec;
-mod parts;
+pub mod checking;
 pub mod reader;
-mod sound;
 pub mod writer;
 
 use model::Answer;

@@ -1,91 +1,74 @@
 // The writer of images.
 use crate::Written;
-use crate::parts;
 use model::Answer;
 use model::ROOM;
-use model::Shared;
 use model::Table;
 use rules::good;
 ghost use mathlib.Core.Path.{_≡_};
-ghost use Prim.Native.Nat.{_<_, _≤_};
+ghost use Prim.Native.Nat.{_-_, _≤_};
+ghost use lib.Seq.{sets};
 ghost use lib.ListN.{length};
-ghost use Rattle.model.specs.Table.{room};
+ghost use Rattle.model.specs.Table.{freshTable};
 ghost use Rattle.image.specs.Image as Image;
-ghost use Rattle.image.specs.Laws.Checked.{startGood, turnsOf, answerIf};
+ghost use Rattle.image.specs.Laws.Blank.{zeros};
 
-// The place of port j in the table; any place where there is no such port.
-fn slot(j: u8) -> usize
-    ensures { λ r. ⌜ (r < room) × (j < room → r ≡ j) ⌝ }
-{
-    if (j as usize) < ROOM { j as usize } else { 0 }
-}
-
-// Where the check is asked for: D and what all share are good, and every place of the table has its turn.
-fn start_good(check: bool, s: Shared, ownermade: u16) -> bool
-    ensures { λ r. ⌜ r ≡ startGood check s ownermade ⌝ }
-{
-    if check {
-        good::size_good(s.d) & good::shared_good(s, ownermade)
-    } else {
-        true
-    }
-}
-
-fn turns(check: bool) -> usize
-    ensures { λ r. ⌜ (r ≡ turnsOf check) × (r ≤ room) ⌝ }
-{
-    if check { ROOM } else { 0 }
-}
-
-// Writes the image of a table, with its check or without. All stands in one body: a call that took the table would copy it.
-fn put_if(table: Table, room: &mut [u8], check: bool) -> Written
-    ensures { λ r. ⌜ r ≡ Image.written (answerIf check table (length (now (room .entry)))) table ⌝ }
-    ensures { λ _. ⌜ now (room .exit) ≡ Image.roomAfter (answerIf check table (length (now (room .entry)))) table (now (room .entry)) ⌝ }
+// Writes the image of a table: BAD TABLE, then SHORT ROOM; refused, the room is as it was and the length 0. All stands in one body: a call that took the
+// table would copy it.
+pub fn write(table: Table, room: &mut [u8]) -> Written
+    ensures { λ r. ⌜ r ≡ Image.written (Image.writeAnswer table (length (now (room .entry)))) table ⌝ }
+    ensures { λ _. ⌜ now (room .exit) ≡ Image.roomAfter (Image.writeAnswer table (length (now (room .entry)))) table (now (room .entry)) ⌝ }
 {
     let s = table.shared;
-    let d = s.d;
-    if (ROOM as u64) < d {
+    let o = good::slot(s.word.owner as u64);
+    let mut ok = good::size_good(s.d) & good::shared_good(s, table.ports[o].made);
+    let n = good::ports(s.d);
+    let mut i: usize = 0;
+    while i < n {
+        let p = table.ports[i];
+        let a = good::slot(p.work.seenowner as u64);
+        let b = good::slot(p.work.candidate as u64);
+        ok = ok
+            & good::port_good(
+                s,
+                i as u64,
+                p,
+                table.copies[i],
+                table.ports[a].made,
+                table.ports[b].made,
+            );
+        i += 1;
+    }
+    let mut rest: u64 = 0;
+    let mut e = n;
+    while e < ROOM {
+        rest = rest | good::joined(table.ports[e], table.copies[e]);
+        e += 1;
+    }
+    if !(ok & (rest == 0)) {
         return Written {
             length: 0,
             answer: Answer::BadTable,
         };
     }
-    let o = slot(s.word.owner);
-    let mut ok = start_good(check, s, table.ports[o].made);
-    let last = turns(check);
-    let mut k: usize = 0;
-    while k < last {
-        let p = table.ports[k];
-        let c = table.copies[k];
-        let a = slot(p.work.seenowner);
-        let b = slot(p.work.candidate);
-        ok = ok & good::place_good(s, k as u64, p, c, table.ports[a].made, table.ports[b].made);
-        k += 1;
-    }
-    if !ok {
-        return Written {
-            length: 0,
-            answer: Answer::BadTable,
-        };
-    }
-    let size = layout::size(d as u8);
+    let d = n as u8;
+    let size = layout::size(d);
     if room.len() < size {
         return Written {
             length: 0,
             answer: Answer::ShortRoom,
         };
     }
-    let n = d as usize;
-    let mut at = parts::put_start(room, s);
-    let mut i: usize = 0;
-    while i < n {
-        at = parts::put_port(room, at, table.ports[i]);
-        i += 1;
+    records::put_head(room, d);
+    records::put_shared(room, s);
+    let mut k: usize = 0;
+    while k < n {
+        records::put_port(room, k as u8, table.ports[k]);
+        k += 1;
     }
-    at = parts::put_copied(room, at, s);
+    records::put_copied(room, d, s);
     let mut j: usize = 0;
     while j < n {
-        at = parts::put_copies(room, at, table.copies[j]);
+        records::put_copies(room, d, j as u8, table.copies[j]);
         j += 1;
     }
     Written {
@@ -94,18 +77,41 @@ fn put_if(table: Table, room: &mut [u8], check: bool) -> Written
     }
 }
 
-// Writes the image of a table without its check: BAD TABLE only where D is above the room kept for ports, then SHORT ROOM.
-pub fn put(table: Table, room: &mut [u8]) -> Written
-    ensures { λ r. ⌜ r ≡ Image.written (Image.putAnswer table (length (now (room .entry)))) table ⌝ }
-    ensures { λ _. ⌜ now (room .exit) ≡ Image.roomAfter (Image.putAnswer table (length (now (room .entry)))) table (now (room .entry)) ⌝ }
+// Zeros from a place up to another.
+fn fill(room: &mut [u8], from: usize, to: usize)
+    requires { ⌜ (from ≤ to) × (to ≤ length (now room)) ⌝ }
+    ensures { λ _. ⌜ now (room .exit) ≡ sets (now (room .entry)) from (zeros (to - from)) ⌝ }
 {
-    put_if(table, room, false)
+    let mut i = from;
+    while i < to {
+        room[i] = 0;
+        i += 1;
+    }
 }
 
-// Writes the image of a table: BAD TABLE, then SHORT ROOM; refused, the room is as it was and the length 0.
-pub fn write(table: Table, room: &mut [u8]) -> Written
-    ensures { λ r. ⌜ r ≡ Image.written (Image.writeAnswer table (length (now (room .entry)))) table ⌝ }
-    ensures { λ _. ⌜ now (room .exit) ≡ Image.roomAfter (Image.writeAnswer table (length (now (room .entry)))) table (now (room .entry)) ⌝ }
+// Writes the image of the fresh table of d ports, without a table: its head, and zeros.
+pub fn blank(d: u64, room: &mut [u8]) -> Written
+    ensures { λ r. ⌜ r ≡ Image.written (Image.writeAnswer (freshTable d) (length (now (room .entry)))) (freshTable d) ⌝ }
+    ensures { λ _. ⌜ now (room .exit) ≡ Image.roomAfter (Image.writeAnswer (freshTable d) (length (now (room .entry)))) (freshTable d) (now (room .entry)) ⌝ }
 {
-    put_if(table, room, true)
+    if !good::size_good(d) {
+        return Written {
+            length: 0,
+            answer: Answer::BadTable,
+        };
+    }
+    let m = d as u8;
+    let long = layout::size(m);
+    if room.len() < long {
+        return Written {
+            length: 0,
+            answer: Answer::ShortRoom,
+        };
+    }
+    records::put_head(room, m);
+    fill(room, layout::HEAD_SIZE, long);
+    Written {
+        length: long,
+        answer: Answer::Done,
+    }
 }

@@ -3,11 +3,13 @@ use mathlib.Core.Path.{_≡_}
 use mathlib.Core.List.{List}
 use Prim.Native.Nat.{ℕ, _+_, _*_}
 use native.Mathlib.Omega.{arith}
+use Rattle.model.specs.declared.Cell.{Cell}
 use Rattle.model.specs.declared.Port.{Port}
 use Rattle.model.specs.declared.Copies.{Copies}
 use Rattle.model.specs.declared.Shared.{Shared}
 use Rattle.model.specs.Statements.{one}
 use Rattle.layout.specs.Bytes.{sum, pack, unpack}
+use Rattle.layout.specs.Places.{setPlace}
 use Rattle.layout.specs.Layout.{headWidths, sharedWidths, portWidths, copiedWidths, copiesWidths, sharedValues, portValues, copiedValues, copiesValues, sharedOf, portOf, copiesOf, headValues, portPlace, copiesPlace, size}
 
 pub shared-values-one : (x : Shared) (r s : List ℕ) → r ≡ sharedValues x → s ≡ sharedValues x → r ≡ s
@@ -41,12 +43,15 @@ port-place-one k r s = one
 pub copies-place-one : (d k r s : ℕ) → r ≡ copiesPlace d k → s ≡ copiesPlace d k → r ≡ s
 copies-place-one d k r s = one
 
+pub set-place-one : (c : Cell) (d j r s : ℕ) → r ≡ setPlace c d j → s ≡ setPlace c d j → r ≡ s
+set-place-one c d j r s = one
+
 pub size-one : (d r s : ℕ) → r ≡ size d → s ≡ size d → r ≡ s
 size-one d r s = one
 
 -- The bodies follow one another without gaps: each starts where the one before it ends, and the last ends the image
 pub without-gaps : (d : ℕ) → (portPlace 0 ≡ sum headWidths + sum sharedWidths)
     × (portPlace d ≡ portPlace 0 + d * sum portWidths)
-    × (size d ≡ portPlace d + (sum copiedWidths + d * sum copiesWidths))
+    × (size d ≡ portPlace d + (sum (copiedWidths d) + d * sum (copiesWidths d)))
 unfolding sum headWidths sharedWidths portWidths copiedWidths copiesWidths portPlace copiesPlace size
 without-gaps d = (omega arith, omega arith, omega arith)

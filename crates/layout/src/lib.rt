@@ -1,13 +1,16 @@
 // The layout of an image: the widths of each record's fields, its values in their order, the head, and where each record stands. Here alone stand numbers of
 // the layout. D and a port's number are bytes, as in the image, so that no size or place is out of reach.
+use model::Cell;
 use model::Copies;
 use model::Port;
 use model::Shared;
 use model::Word;
 use model::Work;
 ghost use mathlib.Core.Path.{_≡_};
-ghost use Rattle.layout.specs.Bytes.{pack, unpack};
+ghost use Prim.Native.Nat.{_+_, _*_, _≤_};
+ghost use Rattle.layout.specs.Bytes.{sum, pack, unpack};
 ghost use Rattle.layout.specs.Layout as Layout;
+ghost use Rattle.layout.specs.Places as Places;
 
 pub const HEAD: [usize; 8] = [1, 1, 2, 2, 2, 2, 2, 2];
 
@@ -19,18 +22,40 @@ pub const COPIED: [usize; 2] = [2, 2];
 
 pub const COPIES: [usize; 3] = [2, 2, 2];
 
+pub const COPIED_WIDE: [usize; 2] = [8, 8];
+
+pub const COPIES_WIDE: [usize; 3] = [8, 8, 8];
+
+// Single fields: a copy set, the latest value in a port's record, and the word in the record that all share.
+pub const SET: [usize; 1] = [2];
+
+pub const SET_WIDE: [usize; 1] = [8];
+
+pub const VALUE: [usize; 1] = [1];
+
+pub const VALUE_AT: usize = 3;
+
+pub const WORD: [usize; 3] = [1, 1, 2];
+
+pub const WORD_AT: usize = 8;
+
+// The most ports whose copy sets take two bytes.
+pub const NARROW: u8 = 16;
+
 // The bytes of each record.
 pub const HEAD_SIZE: usize = 14;
 
-const SHARED_SIZE: usize = 12;
+pub const SHARED_SIZE: usize = 12;
 
-const PORT_SIZE: usize = 16;
+pub const PORT_SIZE: usize = 16;
 
-const COPIED_SIZE: usize = 4;
+pub const COPIED_SIZE: usize = 4;
 
-const COPIES_SIZE: usize = 6;
+pub const COPIES_SIZE: usize = 6;
 
-const VERSION: u64 = 1;
+pub const COPIED_WIDE_SIZE: usize = 16;
+
+pub const COPIES_WIDE_SIZE: usize = 24;
 
 fn wide8(x: u8) -> u64
     ensures { λ r. ⌜ r ≡ x ⌝ }
@@ -141,6 +166,23 @@ pub fn copies_of(v: [u64; 3]) -> Copies
     }
 }
 
+// The length of the copy sets in the image of d ports.
+fn copies_long(d: u8) -> u64
+    ensures { λ r. ⌜ r ≡ sum (Layout.copiedWidths d) + d * sum (Layout.copiesWidths d) ⌝ }
+{
+    let n = d as u64;
+    if d <= NARROW {
+        return COPIED_SIZE as u64 + n * COPIES_SIZE as u64;
+    }
+    COPIED_WIDE_SIZE as u64 + n * COPIES_WIDE_SIZE as u64
+}
+
+fn version(d: u8) -> u64
+    ensures { λ r. ⌜ r ≡ Layout.version d ⌝ }
+{
+    if d <= NARROW { 1 } else { 2 }
+}
+
 // The head of the image of d ports: version, D, start and length of each body.
 pub fn head_values(d: u8) -> [u64; 8]
     ensures { λ r. ⌜ r ≡ Layout.headValues d ⌝ }
@@ -150,14 +192,14 @@ pub fn head_values(d: u8) -> [u64; 8]
     let ports = shared + SHARED_SIZE as u64;
     let copies = ports + n * PORT_SIZE as u64;
     [
-        VERSION,
+        version(d),
         n,
         shared,
         SHARED_SIZE as u64,
         ports,
         n * PORT_SIZE as u64,
         copies,
-        COPIED_SIZE as u64 + n * COPIES_SIZE as u64,
+        copies_long(d),
     ]
 }
 
@@ -174,13 +216,40 @@ pub fn copies_place(d: u8, k: u8) -> usize
 {
     let n = d as usize;
     let i = k as usize;
-    HEAD_SIZE + SHARED_SIZE + n * PORT_SIZE + COPIED_SIZE + i * COPIES_SIZE
+    if d <= NARROW {
+        return HEAD_SIZE + SHARED_SIZE + n * PORT_SIZE + COPIED_SIZE + i * COPIES_SIZE;
+    }
+    HEAD_SIZE + SHARED_SIZE + n * PORT_SIZE + COPIED_WIDE_SIZE + i * COPIES_WIDE_SIZE
+}
+
+// Where the copy set of a word stands in the image of d ports, j being the port that the word belongs to; where there is no word, past the image.
+pub fn set_place(cell: Cell, d: u8, j: u8) -> usize
+    ensures { λ r. ⌜ r ≡ Places.setPlace cell d j ⌝ }
+{
+    let at = copies_place(d, j);
+    let all = port_place(d);
+    let w = set_width(d);
+    match cell {
+        Cell::Nothing => size(d),
+        Cell::Status => at,
+        Cell::Go => at + w,
+        Cell::Spin => at + 2 * w,
+        Cell::Active => all,
+        Cell::Lock => all + w,
+        Cell::CandidateGo => at + w,
+        Cell::SeenSpin => at + 2 * w,
+    }
+}
+
+fn set_width(d: u8) -> usize
+    ensures { λ r. ⌜ (r ≡ Layout.setWidth d) × (r ≤ 8) ⌝ }
+{
+    if d <= NARROW { 2 } else { 8 }
 }
 
 // The length of the image of d ports.
 pub fn size(d: u8) -> usize
     ensures { λ r. ⌜ r ≡ Layout.size d ⌝ }
 {
-    let n = d as usize;
-    HEAD_SIZE + SHARED_SIZE + n * PORT_SIZE + COPIED_SIZE + n * COPIES_SIZE
+    copies_place(d, d)
 }

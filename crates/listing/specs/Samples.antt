@@ -26,9 +26,9 @@ samples = (
 )
     -- an empty input, one of D alone, D out of range
     ∷ ("", "BAD 0\n")
-    ∷ ("D 16\n", "")
+    ∷ ("D 64\n", "")
     ∷ ("D 0\nE 0\n", "BAD 0\n")
-    ∷ ("D 17\nE 0\n", "BAD 0\n")
+    ∷ ("D 65\nE 0\n", "BAD 0\n")
     -- no newline at the end, an empty line
     ∷ ("D 2", "BAD 0\n")
     ∷ ("D 2\nE 0\nS 0", "1 E 0 0 1 0 0.0.0 0 0\nBAD 2\n")

@@ -5,19 +5,23 @@ use lines::Act;
 use lines::Part;
 use lines::Stage;
 use lines::reading;
+use lock::acts;
 use lock::events;
-use model::Answer;
+use lock::orders;
+use model::Port;
 use model::ROOM;
 use model::Shared;
-use model::Table;
+use points::places;
+use rules::good;
 use text::LONGEST;
 use text::Row;
 ghost use mathlib.Core.Path.{_≡_};
-ghost use Prim.Native.Nat.{_≤_};
+ghost use mathlib.Core.Bool.{cond};
+ghost use Prim.Native.Nat.{_/_, _%_, _≤_};
+ghost use lib.Dec.{ltb};
 ghost use lib.ListN.{length};
 ghost use lib.Seq.{sets};
-ghost use Rattle.model.specs.Event.{numberOf};
-ghost use Rattle.model.specs.Table.{portAt};
+ghost use Rattle.model.specs.Table.{room};
 ghost use Rattle.text.specs.Text as Text;
 ghost use Rattle.text.specs.Parts as Parts;
 ghost use Rattle.listing.specs.Feed as Feed;
@@ -36,44 +40,29 @@ pub fn start() -> Run
     }
 }
 
-// The point of a port; 0 where the table has no room for it.
-fn point_at(table: Table, port: u64) -> u64
-    ensures { λ r. ⌜ r ≡ portAt table port .point ⌝ }
-{
-    if port < ROOM as u64 {
-        let p = table.ports[port as usize];
-        return p.point as u64;
-    }
-    0
-}
-
-// What a line prints of an event.
-fn row(
-    number: u64,
-    letter: u8,
-    port: u64,
-    answer: Answer,
-    point: u64,
-    shared: Shared,
-    cached: u64,
-    distributed: u64,
-) -> Row
-    ensures { λ r. ⌜ r ≡ Parts.row number letter port (numberOf answer) point shared cached distributed ⌝ }
+// What a line prints of an event: `code` is its answer and both costs in one number, and p its port's record. The point is 0 where the table has no room
+// for the port.
+fn row(number: u64, letter: u8, port: u64, code: u64, p: Port, shared: Shared) -> Row
+    ensures { λ r. ⌜ r ≡ Parts.row number letter port (code % 256) (cond (ltb port room) (p .point) 0) shared (code / 256 % 256) (code / 65536) ⌝ }
 {
     Row {
         number,
         port,
-        answer: answers::number(answer),
-        point,
-        cached,
-        distributed,
+        answer: code % 256,
+        point: if port < ROOM as u64 {
+            p.point as u64
+        } else {
+            0
+        },
+        cached: code / 256 % 256,
+        distributed: code / 65536,
         shared,
         letter,
     }
 }
 
 // Takes bytes of a piece of input, and puts what they print at the start of `out`, until the piece is used up, there is no room for another longest line,
-// or the run is at its end.
+// or the run is at its end. The table stays here: an order is made on the records that it can see, and what it leaves is stored where they were.
 pub fn feed(run: Run, input: &[u8], out: &mut [u8]) -> Fed
     ensures { λ r. ⌜ r ≡ Feed.feeding (length (now (out .entry))) run (now (input .entry)) .0 ⌝ }
     ensures { λ r. ⌜ now (out .exit) ≡ sets (now (out .entry)) 0 (Feed.feeding (length (now (out .entry))) run (now (input .entry)) .1) ⌝ }
@@ -105,22 +94,30 @@ pub fn feed(run: Run, input: &[u8], out: &mut [u8]) -> Fed
                 event,
                 port,
             } => {
-                let o = events::paid(table, port, event);
-                let after = o.table;
-                let answer = o.answer;
-                let point = point_at(after, port);
-                let r = row(
-                    number,
-                    letter,
+                let k = good::slot(port);
+                let own = table.ports[k];
+                let u = places::touch_at(own.point);
+                let cell = u.cell;
+                let j = good::slot(costs::home(cell, port, own.work));
+                let l = orders::act(
+                    u,
+                    table.shared,
                     port,
-                    answer,
-                    point,
-                    after.shared,
-                    o.cached,
-                    o.distributed,
+                    event,
+                    own,
+                    table.ports[j],
+                    table.copies[j],
                 );
+                let p = l.own;
+                let c = l.copies;
+                let s = l.shared;
+                let r = row(number, letter, port, l.code, p, s);
+                table.ports[k] = p;
+                table.copies[j] = c;
+                table.shared = s;
+                let m = acts::marked(l.sets, table.ports[j]);
+                table.ports[j] = m;
                 written = text::put_row(out, written, r);
-                table = after;
                 number = std::num::wrapping_add_u64(number, 1);
                 part = Part::Nothing;
             }

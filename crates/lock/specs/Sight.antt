@@ -1,35 +1,32 @@
 -- A step on what it can see: the shared part, its own port, and the port that it touches; and the table put together again.
 use mathlib.Core.Path.{_≡_, refl, _∙_}
-use mathlib.Core.Bool.{Bool, true, false, cond, _&&_}
-use mathlib.Core.List.{List}
+use mathlib.Core.Bool.{Bool, true, false, cond}
+use mathlib.Core.List.{List, [], _∷_}
 use Prim.Native.Nat.{ℕ, _%_, _≤_, _<_, _^_}
 use native.Mathlib.Nat.{mod-eq-of-lt, lt-of-lt-of-le, pos-of-ne-zero}
 use lib.Dec.{eqb}
 use lib.ListN.{getD, set}
 use lib.Seq.{set-getD}
-use borrow.Author.Tests.{eq-eqb, ne-eqb}
+use borrow.Author.Tests.{eq-eqb, ne-eqb, leb-true, ltb-true}
 use Rattle.model.specs.declared.Port.{Port}
-use Rattle.model.specs.declared.Copies.{Copies}
-use Rattle.model.specs.declared.Shared.{Shared}
 use Rattle.model.specs.declared.Table.{Table}
 use Rattle.model.specs.declared.View.{View}
-use Rattle.model.specs.declared.Move.{Move}
-use Rattle.model.specs.declared.Touch.{Touch}
-use Rattle.model.specs.declared.Charge.{Charge}
 use Rattle.lock.specs.declared.acts.Left.{Left}
+use Rattle.lock.specs.Parts.{steppedOn}
 use Rattle.model.specs.declared.Outcome.{Outcome}
 use Rattle.model.specs.declared.Answer.the-variants.{Done}
-use Rattle.model.specs.Table.{most, table, noPort, portAt, copiesAt, putPort, latest}
+use Rattle.model.specs.Table.{most, table, noPort, portAt, copiesAt, putPort}
 use Rattle.model.specs.Ring.{next}
+use Rattle.model.specs.Laws.Tests.{conjunct, implied}
+use Rattle.model.specs.Laws.Mask.{within-lt}
 use Rattle.model.specs.Laws.Ring.{next-any}
 use Rattle.model.specs.Laws.Stepped.{carried-parts}
-use Rattle.model.specs.Points.{pointOf, settled}
+use Rattle.model.specs.Points.{settled}
 use Rattle.model.specs.Cost.{outcome, free}
 use Rattle.model.specs.Step.{withValue}
 use Rattle.model.specs.Event.{numberOf, ordered}
-use Rattle.model.specs.Parts.Moves.{view, step}
-use Rattle.model.specs.Parts.Charges.{charge}
-use Rattle.model.specs.Parts.Steps.{sharedAfter, copiesAfter, touchOf, homeOf, viewOf, moveOf, chargeOf, marks, marked, stepped}
+use Rattle.model.specs.Parts.Moves.{sees}
+use Rattle.model.specs.Parts.Steps.{touchOf, homeOf, viewOf, moveOf, chargeOf, marks, marked, stepped}
 use Rattle.model.specs.Paid.{paidAnswer, paidEvent}
 
 -- what a step may count on, of what it sees
@@ -39,6 +36,19 @@ pub record Sight (v : View) : Type 0 where
   pub seen : v .own .work .seenowner < v .d
   pub bits : v .active < 2 ^ (v .d)
   pub unworn : v .own .point ≡ 4 → v .own .made < most
+
+-- the test whether a step can be made
+pub seen-sight : (v : View) → sees v ≡ true → Sight v
+unfolding sees
+seen-sight v e =
+    let q = conjunct _ (_ ∷ _ ∷ _ ∷ _ ∷ []) e in
+    record {
+      ports = leb-true _ _ (q 0);
+      port = ltb-true _ _ (q 1);
+      seen = ltb-true _ _ (q 2);
+      bits = within-lt _ _ (q 3);
+      unworn = λ n. ltb-true _ _ (implied _ _ (q 4) (eq-eqb _ _ n));
+    }
 
 -- a port of a table is below 64: its bit in a mask is its own
 pub round : {v : View} → Sight v → v .k % 64 ≡ v .k
@@ -51,30 +61,6 @@ ringed {v} s n r e =
     e
     ∙ rw (ne-eqb (v .active) 0 n, mod-eq-of-lt (lt-of-lt-of-le (s .seen) (s .ports)))
     (next-any (s .seen) (s .ports) (pos-of-ne-zero n) (s .bits))
-
--- what port k sees, where q is the port that it touches, and what its step changes
-abbrev pub viewOn : Shared → ℕ → Port → Port → View
-viewOn s k p q = view p (s .active) (s .d) k (q .go) (s .word)
-
-abbrev pub moveOn : Shared → ℕ → Port → Port → Move
-moveOn s k p q = step (pointOf (p .point)) (viewOn s k p q)
-
--- what its step leaves
-abbrev pub leftBy : Touch → Port → Port → Move → Charge → Left
-leftBy u p q m x =
-    record {
-      own = settled (m .own);
-      shared = x .shared;
-      copies = x .copies;
-      sets = m .sets && latest q (p .work .seenspin);
-      cached = x .cached;
-      distributed = x .distributed;
-    }
-
-unfoldable pub steppedOn : Touch → Shared → ℕ → Port → Port → Copies → Left
-steppedOn u s k p q c =
-    leftBy u p q (moveOn s k p q)
-    (charge u k (p .work) q (sharedAfter (moveOn s k p q) s) (copiesAfter (moveOn s k p q) c))
 
 -- the table and the costs from what the step leaves, where j is the port that it touched
 abbrev pub setAt : Bool → List Port → ℕ → List Port

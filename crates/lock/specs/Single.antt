@@ -1,24 +1,27 @@
--- A run of one order is an event: its answer and both costs from the one number that the run gives.
+-- An event from one order: its answer and both costs from the one number that the order gives.
 use mathlib.Core.Path.{_≡_, refl, sym, ap, _∙_}
 use mathlib.Core.Bool.{Bool, true, false, cond}
-use mathlib.Core.List.{List, [], _∷_}
 use Prim.Native.Nat.{ℕ, _/_, _%_, _<_}
 use native.Mathlib.Omega.{arith}
 use lib.Dec.{eqb}
-use lib.ListN.{getD}
-use lib.Seq.{sets}
 use Rattle.model.specs.declared.Table.{Table}
 use Rattle.model.specs.declared.Outcome.{Outcome}
-use Rattle.model.specs.declared.Made.{Made}
 use Rattle.model.specs.declared.Answer.{Answer}
 use Rattle.model.specs.declared.Answer.the-variants.{Done, BadTable, NoSuchPort, NoSuchEvent, Busy, Worn, NotInside, Idle, Inside, BadSize, ShortRoom, BadImage}
+use Rattle.model.specs.Table.{portAt, copiesAt}
 use Rattle.model.specs.Cost.{free}
 use Rattle.model.specs.Event.{numberOf, firstOf, refusal, event}
 use Rattle.model.specs.Good.{good}
-use Rattle.model.specs.Run.{Order, ran, orders, codeOf, codes, ordersFor, run, runAnswers}
-use Rattle.model.specs.Paid.{paidEvent, paidRan, paidCodes}
+use Rattle.model.specs.Run.{codeOf}
+use Rattle.model.specs.Parts.Charges.{home}
+use Rattle.model.specs.Parts.Steps.{touchOf}
+use Rattle.model.specs.Parts.Rules.{slotOf}
 use Rattle.model.specs.Laws.Fees.{event-cost}
-use Rattle.model.specs.Laws.Paid.{paid-cost}
+use Rattle.model.specs.Laws.Paid.{paid-event}
+use Rattle.lock.specs.declared.orders.Acted.{Acted}
+use Rattle.lock.specs.Parts.{kept}
+use Rattle.lock.specs.Acted.{joined}
+use Rattle.lock.specs.Placed.{actedAt, unchanged, placed}
 
 -- the answer that a number stands for
 unfoldable pub answerOf : ℕ → Answer
@@ -84,47 +87,45 @@ decoded o h =
       omega (arith, n, h),
     )
 
--- the one order of a port and an event, with one place for its answer
-abbrev pub single : ℕ → ℕ → List Order
-single k e = ordersFor (k ∷ e ∷ []) (1 ∷ [])
+pub code-number : (o : Outcome) → codeOf o % 256 ≡ numberOf (o .answer)
+unfolding codeOf
+code-number o = omega (arith, number-small (o .answer))
 
 pub bad-event : (t : Table) (k e : ℕ) → good t ≡ false → event t k e ≡ free BadTable t
 unfolding event refusal firstOf
 bad-event t k e h = rw h
 
--- what stands in that place is the event's code: BAD TABLE, or what the run put there
-one-code : (t : Table) (k e : ℕ) (g : Bool) → good t ≡ g → (run t (single k e) .table ≡ event t k e .table) × (getD (runAnswers t (single k e) (1 ∷ [])) 0 0 ≡ codeOf (event t k e))
-unfolding ran codes codeOf orders run runAnswers
-one-code t k e true h = (rw h, rw h)
-one-code t k e false h = rw (bad-event t k e h) (rw h, rw h)
-
--- what a run of one order gives and answers is the event's outcome
-pub run-of-one : (t : Table) (k e : ℕ) (r : Made) (a : List ℕ) (n : Answer)
-    → r ≡ run t (single k e)
-    → a ≡ runAnswers t (single k e) (1 ∷ [])
-    → n ≡ answerOf (getD a 0 0 % 256)
-    → record { table = r .table; cached = getD a 0 0 / 256 % 256; distributed = getD a 0 0 / 65536; answer = n } ≡ event t k e
-run-of-one t k e r a n p q h =
-    let d = decoded (event t k e) (omega (arith, event-cost t k e .0)) in
-    let o = one-code t k e (good t) refl in
-    rw (h, q, p, o .0, o .1, sym (d .0), sym (d .1), sym (d .2))
-
--- the same of its table and its code; the number of an answer from its code
-pub run-one : (t : Table) (k e : ℕ)
-    → (run t (single k e) .table ≡ event t k e .table) × (getD (runAnswers t (single k e) (1 ∷ [])) 0 0 ≡ codeOf (event t k e))
-run-one t k e = one-code t k e (good t) refl
-
-pub code-number : (o : Outcome) → codeOf o % 256 ≡ numberOf (o .answer)
+bad-code : (t : Table) → codeOf (free BadTable t) ≡ 1
 unfolding codeOf
-code-number o = omega (arith, number-small (o .answer))
+bad-code t = omega arith
 
--- the same where the check has been paid
-pub paid-of-one : (t : Table) (k e : ℕ) (r : Table) (a : List ℕ) (n : Answer)
-    → r ≡ paidRan t (ordersFor (k ∷ e ∷ []) (0 ∷ []))
-    → a ≡ sets (0 ∷ []) 0 (paidCodes t (ordersFor (k ∷ e ∷ []) (0 ∷ [])))
-    → n ≡ answerOf (getD a 0 0 % 256)
-    → record { table = r; cached = getD a 0 0 / 256 % 256; distributed = getD a 0 0 / 65536; answer = n } ≡ paidEvent t k e
-unfolding paidRan paidCodes orders
-paid-of-one t k e r a n p q h =
-    let d = decoded (paidEvent t k e) (omega (arith, paid-cost t k e .0)) in
-    rw (p, h, q, sym (d .0), sym (d .1), sym (d .2))
+-- an event from its table and its code
+from-code : (o : Outcome) (t : Table) (code : ℕ) (n : Answer) → o .cached < 256 → t ≡ o .table → code ≡ codeOf o → n ≡ answerOf (code % 256)
+    → record { table = t; cached = code / 256 % 256; distributed = code / 65536; answer = n } ≡ o
+from-code o t code n h p q r = let d = decoded o h in rw (r, q, p, sym (d .0), sym (d .1), sym (d .2))
+
+-- what an order on a table that was checked leaves, as an event
+pub one-event : (t : Table) (port e k j : ℕ) (sound : Bool) (l : Acted) (n : Answer) → sound ≡ good t
+    → k ≡ slotOf port → j ≡ slotOf (home (touchOf t k .cell) port (portAt t k .work))
+    → l ≡ cond sound (actedAt t port e k j) (kept (portAt t k) (t .shared) (copiesAt t j) 1) → n ≡ answerOf (l .code % 256)
+    → record { table = joined t k j l; cached = l .code / 256 % 256; distributed = l .code / 65536; answer = n } ≡ event t port e
+one-event t port e k j sound l n g a b c r = go sound g c
+  where
+    small : event t port e .cached < 256
+    small = omega (arith, event-cost t port e .0)
+
+    go : (x : Bool) → x ≡ good t → l ≡ cond x (actedAt t port e k j) (kept (portAt t k) (t .shared) (copiesAt t j) 1)
+        → record { table = joined t k j l; cached = l .code / 256 % 256; distributed = l .code / 65536; answer = n } ≡ event t port e
+    go true q f =
+        let p = placed t port e k j a b in
+        let o = paid-event t port e (sym q) in
+        from-code (event t port e) (joined t k j l) (l .code) n small
+        (ap (joined t k j) f ∙ p .table ∙ ap (λ (x : Outcome). x .table) o)
+        (ap (λ (x : Acted). x .code) f ∙ p .code ∙ ap codeOf o)
+        r
+    go false q f =
+        let o = bad-event t port e (sym q) in
+        from-code (event t port e) (joined t k j l) (l .code) n small
+        (ap (joined t k j) f ∙ unchanged t k j ∙ sym (ap (λ (x : Outcome). x .table) o))
+        (ap (λ (x : Acted). x .code) f ∙ sym (ap codeOf o ∙ bad-code t))
+        r

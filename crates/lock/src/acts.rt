@@ -1,15 +1,40 @@
 // What a step leaves, on what it can see: the shared part, its own port, and the port that it touches.
 use crate::steps;
 use model::Copies;
+use model::Move;
 use model::Port;
 use model::Shared;
 use model::Touch;
 use model::View;
 use points::places;
+use rules::good;
 ghost use mathlib.Core.Path.{_≡_};
 ghost use mathlib.Core.Bool.{cond};
 ghost use Rattle.model.specs.Step.{withValue};
-ghost use Rattle.lock.specs.Sight.{Sight, viewOn, steppedOn};
+ghost use Rattle.model.specs.Parts.Moves as Moves;
+ghost use Rattle.lock.specs.Parts.{viewOn, steppedOn};
+ghost use Rattle.lock.specs.Sight.{Sight};
+
+// A step can be made from what it sees.
+fn sees(v: View) -> bool
+    ensures { λ r. ⌜ r ≡ Moves.sees v ⌝ }
+{
+    (v.d <= 64)
+        & (v.k < v.d)
+        & ((v.own.work.seenowner as u64) < v.d)
+        & masks::within(v.d, v.active)
+        & (!(v.own.point == 4) | (v.own.made < good::MOST))
+}
+
+// What a step changes; nothing where it can't be made.
+pub fn tried(v: View) -> Move
+    ensures { λ r. ⌜ r ≡ Moves.tried v ⌝ }
+{
+    if sees(v) {
+        return steps::step(v);
+    }
+    steps::changed(v, v.own)
+}
 
 // What a step leaves: its port's record, what all share, the copy sets of the port that it touched, whether that port's latest spin is set to 1, and
 // both costs.
@@ -30,7 +55,7 @@ fn kept_copies(new: bool, m: u64) -> u64
 }
 
 // What the step of port k leaves; q is the port that it touches, and c that port's copy sets.
-pub fn stepped(u: Touch, s: Shared, k: u64, own: Port, q: Port, c: Copies) -> Left
+pub(crate) fn stepped(u: Touch, s: Shared, k: u64, own: Port, q: Port, c: Copies) -> Left
     requires { ⌜ Sight (viewOn s k own q) ⌝ }
     ensures { λ r. ⌜ r ≡ steppedOn u s k own q c ⌝ }
 {

@@ -1,15 +1,16 @@
 // Fresh tables and events.
-use crate::runs;
+use crate::acts;
+use crate::orders;
 use model::Answer;
 use model::Made;
 use model::Outcome;
+use model::ROOM;
 use model::Table;
+use points::places;
+use rules::good;
 ghost use mathlib.Core.Path.{_≡_};
 ghost use Rattle.model.specs.Event as Event;
-ghost use Rattle.model.specs.Paid as Paid;
 ghost use Rattle.lock.specs.Single.{answerOf};
-
-const BAD_TABLE: u64 = 1;
 
 // The fresh table of D ports; D not 1 to the room is BAD SIZE with the fresh table of D = 1.
 pub fn fresh(d: u64) -> Made
@@ -38,33 +39,62 @@ fn named(number: u64) -> Answer
     }
 }
 
-// An event on any table, at any port, of any number: a run of one order. BAD TABLE stands for its answer until the run answers it.
-pub fn event(table: Table, port: u64, event: u64) -> Outcome
+// An event on any table, at any port, of any number: a check of the table, and one order. All stands in one body: a call that took the table would copy it.
+pub fn event(mut table: Table, port: u64, event: u64) -> Outcome
     ensures { λ r. ⌜ r ≡ Event.event table port event ⌝ }
 {
-    let orders = [port, event];
-    let mut answers = [BAD_TABLE];
-    let r = runs::run(table, &orders, &mut answers);
-    let code = answers[0];
-    let after = r.table;
-    Outcome {
-        table: after,
-        cached: code / 256 % 256,
-        distributed: code / 65536,
-        answer: named(code % 256),
+    let s = table.shared;
+    let o = good::slot(s.word.owner as u64);
+    let mut ok = good::size_good(s.d) & good::shared_good(s, table.ports[o].made);
+    let n = good::ports(s.d);
+    let mut i: usize = 0;
+    while i < n {
+        let p = table.ports[i];
+        let a = good::slot(p.work.seenowner as u64);
+        let b = good::slot(p.work.candidate as u64);
+        ok = ok
+            & good::port_good(
+                s,
+                i as u64,
+                p,
+                table.copies[i],
+                table.ports[a].made,
+                table.ports[b].made,
+            );
+        i += 1;
     }
-}
-
-// An event on a table whose check has been paid.
-pub fn paid(table: Table, port: u64, event: u64) -> Outcome
-    ensures { λ r. ⌜ r ≡ Paid.paidEvent table port event ⌝ }
-{
-    let orders = [port, event];
-    let mut answers: [u64; 1] = [0];
-    let after = runs::carry(table, &orders, &mut answers);
-    let code = answers[0];
+    let mut rest: u64 = 0;
+    let mut e = n;
+    while e < ROOM {
+        rest = rest | good::joined(table.ports[e], table.copies[e]);
+        e += 1;
+    }
+    let k = good::slot(port);
+    let own = table.ports[k];
+    let u = places::touch_at(own.point);
+    let cell = u.cell;
+    let j = good::slot(costs::home(cell, port, own.work));
+    let l = orders::act_if(
+        ok & (rest == 0),
+        u,
+        table.shared,
+        port,
+        event,
+        own,
+        table.ports[j],
+        table.copies[j],
+    );
+    let p = l.own;
+    let c = l.copies;
+    let t = l.shared;
+    table.ports[k] = p;
+    table.copies[j] = c;
+    table.shared = t;
+    let q = acts::marked(l.sets, table.ports[j]);
+    table.ports[j] = q;
+    let code = l.code;
     Outcome {
-        table: after,
+        table,
         cached: code / 256 % 256,
         distributed: code / 65536,
         answer: named(code % 256),

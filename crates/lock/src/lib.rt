@@ -1,5 +1,6 @@
 // The lock engine: an event on a table.
-mod acts;
+pub mod acts;
 pub mod events;
+pub mod orders;
 pub mod runs;
 mod steps;

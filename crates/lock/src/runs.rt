@@ -1,6 +1,6 @@
 // Runs: orders carried out on one table, with one check of the table at the start.
 use crate::acts;
-use answers::STEP;
+use crate::orders;
 use model::Answer;
 use model::Made;
 use model::ROOM;
@@ -8,91 +8,102 @@ use model::Table;
 use points::places;
 use rules::good;
 ghost use mathlib.Core.Path.{_≡_};
-ghost use Prim.Native.Nat.{_+_, _*_, _<_, min};
-ghost use lib.Seq.{sets};
-ghost use Rattle.model.specs.Table.{room};
+ghost use mathlib.Core.Bool.{cond};
+ghost use Prim.Native.Nat.{min};
 ghost use Rattle.model.specs.Run as Run;
-ghost use Rattle.model.specs.Paid as Paid;
+ghost use Rattle.model.specs.declared.Answer.the-variants as Answers;
 
-fn least(a: usize, b: usize) -> usize
-    ensures { λ r. ⌜ r ≡ min a b ⌝ }
+// How many orders are carried out: as many as there are pairs and places for answers; none where the table isn't good.
+fn turns(sound: bool, pairs: usize, places: usize) -> usize
+    ensures { λ r. ⌜ r ≡ cond sound (min pairs places) 0 ⌝ }
 {
-    if a < b { a } else { b }
+    if !sound {
+        return 0;
+    }
+    if pairs < places { pairs } else { places }
 }
 
-// Both costs in one number, with the answer DONE.
-fn code(cached: u64, distributed: u64) -> u64
-    requires { ⌜ (cached < 256) × (distributed < 256) ⌝ }
-    ensures { λ r. ⌜ r ≡ 256 * cached + 65536 * distributed ⌝ }
+fn answer(sound: bool) -> Answer
+    ensures { λ r. ⌜ r ≡ cond sound Answers.Done Answers.BadTable ⌝ }
 {
-    256 * cached + 65536 * distributed
+    if sound {
+        return Answer::Done;
+    }
+    Answer::BadTable
 }
 
-// The place of port k in the table; any place where there is no such port.
-fn slot(k: u64) -> usize
-    ensures { λ r. ⌜ (r < room) × (k < room → r ≡ k) ⌝ }
+// Carries out orders on any table, with one check of it: as many as there are pairs of port and event and places for their answers. answers[i] is what order
+// i answers: its number, 256 times its cached and 65,536 times its distributed cost. A bad table is refused, and nothing is changed. All stands in one body:
+// a call that took the table would copy it.
+pub fn run(mut table: Table, orders: &[u64], answers: &mut [u64]) -> Made
+    ensures { λ r. ⌜ r ≡ Run.run table (Run.ordersFor (now (orders .entry)) (now (answers .entry))) ⌝ }
+    ensures { λ r. ⌜ now (answers .exit) ≡ Run.runAnswers table (Run.ordersFor (now (orders .entry)) (now (answers .entry))) (now (answers .entry)) ⌝ }
 {
-    if k < ROOM as u64 { k as usize } else { 0 }
-}
-
-// Carries out orders on a table whose check has been paid: as many as there are pairs of port and event and places for their answers. answers[i] is what
-// order i answers: its number, 256 times its cached and 65,536 times its distributed cost. Gives the table after the last.
-pub fn carry(mut table: Table, orders: &[u64], answers: &mut [u64]) -> Table
-    ensures { λ r. ⌜ r ≡ Paid.paidRan table (Run.ordersFor (now (orders .entry)) (now (answers .entry))) ⌝ }
-    ensures { λ r. ⌜ now (answers .exit) ≡ sets (now (answers .entry)) 0 (Paid.paidCodes table (Run.ordersFor (now (orders .entry)) (now (answers .entry)))) ⌝ }
-{
-    let n = least(orders.len() / 2, answers.len());
+    let s = table.shared;
+    let o = good::slot(s.word.owner as u64);
+    let mut ok = good::size_good(s.d) & good::shared_good(s, table.ports[o].made);
+    let n = good::ports(s.d);
     let mut i: usize = 0;
     while i < n {
-        let port = orders[2 * i];
-        let event = orders[2 * i + 1];
-        let k = slot(port);
+        let p = table.ports[i];
+        let a = good::slot(p.work.seenowner as u64);
+        let b = good::slot(p.work.candidate as u64);
+        ok = ok
+            & good::port_good(
+                s,
+                i as u64,
+                p,
+                table.copies[i],
+                table.ports[a].made,
+                table.ports[b].made,
+            );
+        i += 1;
+    }
+    let mut rest: u64 = 0;
+    let mut e = n;
+    while e < ROOM {
+        rest = rest | good::joined(table.ports[e], table.copies[e]);
+        e += 1;
+    }
+    let sound = ok & (rest == 0);
+    let m = turns(sound, orders.len() / 2, answers.len());
+    let mut x: usize = 0;
+    while x < m {
+        let port = orders[2 * x];
+        let event = orders[2 * x + 1];
+        let k = good::slot(port);
         let own = table.ports[k];
         let number = answers::first(table.shared, port, event, own);
         if number != 0 {
-            answers[i] = number;
-            i += 1;
-            continue;
-        }
-        if event != STEP {
-            let q = answers::ordered(event, own);
-            table.ports[k] = q;
-            answers[i] = 0;
-            i += 1;
+            answers[x] = number;
+            x += 1;
             continue;
         }
         let u = places::touch_at(own.point);
         let cell = u.cell;
-        let j = costs::home(cell, port, own.work) as usize;
-        let l = acts::stepped(u, table.shared, port, own, table.ports[j], table.copies[j]);
+        let j = good::slot(costs::home(cell, port, own.work));
+        let l = orders::carried(
+            u,
+            table.shared,
+            port,
+            event,
+            own,
+            table.ports[j],
+            table.copies[j],
+        );
         let p = l.own;
         let c = l.copies;
-        let s = l.shared;
+        let t = l.shared;
         table.ports[k] = p;
         table.copies[j] = c;
-        table.shared = s;
-        let m = acts::marked(l.sets, table.ports[j]);
-        table.ports[j] = m;
-        answers[i] = code(l.cached, l.distributed);
-        i += 1;
+        table.shared = t;
+        let q = acts::marked(l.sets, table.ports[j]);
+        table.ports[j] = q;
+        answers[x] = l.code;
+        x += 1;
     }
-    table
-}
-
-// Carries out orders on any table, with one check of it. A bad table is refused, and nothing is changed.
-pub fn run(table: Table, orders: &[u64], answers: &mut [u64]) -> Made
-    ensures { λ r. ⌜ r ≡ Run.run table (Run.ordersFor (now (orders .entry)) (now (answers .entry))) ⌝ }
-    ensures { λ r. ⌜ now (answers .exit) ≡ Run.runAnswers table (Run.ordersFor (now (orders .entry)) (now (answers .entry))) (now (answers .entry)) ⌝ }
-{
-    if !good::good(table) {
-        return Made {
-            table,
-            answer: Answer::BadTable,
-        };
-    }
-    let after = carry(table, orders, answers);
     Made {
-        table: after,
-        answer: Answer::Done,
+        table,
+        answer: answer(sound),
     }
 }

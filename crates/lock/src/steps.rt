@@ -30,7 +30,7 @@ fn pick(test: bool, a: u8, b: u8) -> u8
 }
 
 // What a step changes: its own record alone; and ACTIVE; and the word.
-fn changed(v: View, p: Port) -> Move
+pub fn changed(v: View, p: Port) -> Move
     ensures { λ r. ⌜ r ≡ Moves.changed v p ⌝ }
 {
     let w = v.word;

@@ -1,6 +1,6 @@
 -- Orders on a table whose check has been paid before: only what a step needs in order to be carried out is looked at. On a good table they are the events.
 use mathlib.Core.Bool.{Bool, cond, not, _&&_}
-use mathlib.Core.List.{List, [], _∷_}
+use mathlib.Core.List.{_∷_}
 use Prim.Native.Nat.{ℕ}
 use lib.Dec.{eqb, leb, ltb}
 use Rattle.model.specs.declared.Port.{Port}
@@ -14,7 +14,6 @@ use Rattle.model.specs.Mask.{within}
 use Rattle.model.specs.Good.{sizeGood}
 use Rattle.model.specs.Cost.{free}
 use Rattle.model.specs.Event.{numberOf, refusals, firstOf, carried}
-use Rattle.model.specs.Run.{Order, codeOf}
 
 -- what a step needs of its port: its seen owner and its candidate are ports, and made is a count of spins
 unfoldable pub placed : ℕ → Port → Bool
@@ -30,12 +29,3 @@ unfoldable pub paidEvent : Table → ℕ → ℕ → Outcome
 paidEvent t k e =
     cond (eqb (numberOf (paidAnswer (t .shared) k e (portAt t k))) 0) (carried t k e)
     (free (paidAnswer (t .shared) k e (portAt t k)) t)
-
--- the table after a list of orders, and what they answer
-unfoldable pub paidRan : Table → List Order → Table
-paidRan t [] = t
-paidRan t (o ∷ os) = paidRan (paidEvent t (o .port) (o .event) .table) os
-
-unfoldable pub paidCodes : Table → List Order → List ℕ
-paidCodes t [] = []
-paidCodes t (o ∷ os) = codeOf (paidEvent t (o .port) (o .event)) ∷ paidCodes (paidEvent t (o .port) (o .event) .table) os

@@ -32,7 +32,7 @@ samples =
     ∷ (answer (event pair 0 enter .table) 0 enter, 4)
     ∷ (answer pair 0 stepping, 7)
     ∷ (numberOf (fresh 0 .answer), 9)
-    ∷ (numberOf (fresh 17 .answer), 9)
+    ∷ (numberOf (fresh 65 .answer), 9)
     ∷ (answer pair 2 enter, 2)
     ∷ (answer pair 0 6, 3)
     ∷ []

@@ -5,7 +5,6 @@ use mathlib.Core.Logic.{_≢_}
 use mathlib.Core.Bool.{true, false, _||_}
 use mathlib.Core.List.{List, [], _∷_}
 use Prim.Native.Nat.{ℕ, _-_, _*_, _≤_, _<_, _^_}
-use lib.Seq.{sets}
 use Rattle.model.specs.declared.Table.{Table}
 use Rattle.model.specs.declared.Outcome.{Outcome}
 use Rattle.model.specs.declared.Made.{Made}
@@ -17,7 +16,7 @@ use Rattle.model.specs.Good.{good}
 use Rattle.model.specs.Cost.{free}
 use Rattle.model.specs.Event.{numberOf, enter, stepping, crash, event, fresh}
 use Rattle.model.specs.Run.{Order, order, after, ran, reached, Critical, run, runAnswers, done, stepsAt, passedOver, passageCost, stepless}
-use Rattle.model.specs.Paid.{paidEvent, paidRan, paidCodes}
+use Rattle.model.specs.Paid.{paidEvent}
 use Rattle.model.specs.Laws.Mask.{set-own, set-other, cleared-own, cleared-other, joined-own, joined-other, alone-own, alone-other}
 use Rattle.model.specs.Laws.Ring.{distance-own, distance-le, next-stands, next-nearest}
 use Rattle.model.specs.Laws.Cases.{refused-free, orders-free}
@@ -47,16 +46,6 @@ run-one t os r s = one
 
 pub answers-one : (t : Table) (os : List Order) (places r s : List ℕ) → r ≡ runAnswers t os places → s ≡ runAnswers t os places → r ≡ s
 answers-one t os places r s = one
-
-pub paid-one : (t : Table) (k e : ℕ) (r s : Outcome) → r ≡ paidEvent t k e → s ≡ paidEvent t k e → r ≡ s
-paid-one t k e r s = one
-
-pub carry-one : (t : Table) (os : List Order) (r s : Table) → r ≡ paidRan t os → s ≡ paidRan t os → r ≡ s
-carry-one t os r s = one
-
-pub carry-answers-one : (t : Table) (os : List Order) (places r s : List ℕ) → r ≡ sets places 0 (paidCodes t os)
-    → s ≡ sets places 0 (paidCodes t os) → r ≡ s
-carry-answers-one t os places r s = one
 
 -- On a good table an order whose check has been paid is the event
 pub paid-is-event : (t : Table) (k e : ℕ) → good t ≡ true → paidEvent t k e ≡ event t k e

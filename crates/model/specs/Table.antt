@@ -14,7 +14,7 @@ use Rattle.model.specs.declared.Table.{Table}
 
 -- how many ports a table has room for
 unfoldable pub room : ℕ
-room = 16
+room = 64
 
 -- the most spins that a port makes
 unfoldable pub most : ℕ

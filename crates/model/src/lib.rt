@@ -1,7 +1,7 @@
 // The table of one lock, and what its functions answer. Document 01, section 'The table'.
 
 // The most ports that a table has room for.
-pub const ROOM: usize = 16;
+pub const ROOM: usize = 64;
 
 // The lock word: taken (0 or 1), owner and spin number. Its spin belongs to its owner.
 pub struct Word {
@@ -96,6 +96,13 @@ pub enum Kind {
 pub struct Touch {
     pub cell: Cell,
     pub kind: Kind,
+}
+
+// What a touch of a word costs in both models, and the ports with a copy of the word after it.
+pub struct Fee {
+    pub set: u64,
+    pub cached: u64,
+    pub distributed: u64,
 }
 
 // What a touch costs in both models, and the copy sets after it.

@@ -3,11 +3,11 @@ use model::Copies;
 use model::Port;
 use model::ROOM;
 use model::Shared;
-use model::Table;
 use model::Work;
 use points::places;
 ghost use mathlib.Core.Path.{_≡_};
-ghost use Prim.Native.Nat.{_<_};
+ghost use Prim.Native.Nat.{_≤_, _<_};
+ghost use lib.Bits.{bitOr};
 ghost use Rattle.model.specs.Table.{room};
 ghost use Rattle.model.specs.Good as Good;
 ghost use Rattle.model.specs.Parts.Rules as Rules;
@@ -44,39 +44,31 @@ fn wide(x: u8) -> u64
     x as u64
 }
 
+fn wide16(x: u16) -> u64
+    ensures { λ r. ⌜ r ≡ x ⌝ }
+{
+    x as u64
+}
+
 // The fields of port k.
 fn fields_good(active: u64, k: u64, p: Port) -> bool
     ensures { λ r. ⌜ r ≡ Good.fieldsGood active k p ⌝ }
 {
+    if !places::has(NAMED, p.point) {
+        return false;
+    }
+    if p.made < p.go {
+        return false;
+    }
     let bit = masks::stands(active, k);
-    places::has(NAMED, p.point)
-        & (p.status <= 3)
+    (p.status <= 3)
         & (p.flag <= 1)
         & (p.value <= 1)
         & (p.made <= MOST)
-        & (p.go <= p.made)
         & (!(p.point == 0) | (p.flag == 0))
         & (!(p.point == 6) | !bit)
         & (!(p.point == 15) | bit)
         & (!(p.made == 0) | (p.value == 0))
-}
-
-// The working values of a port with its point and made, and made of its seen owner and of its candidate.
-fn work_good(d: u64, point: u8, made: u16, seenmade: u16, candidatemade: u16, w: Work) -> bool
-    ensures { λ r. ⌜ r ≡ Good.workGood d point made seenmade candidatemade w ⌝ }
-{
-    let seen = places::has(places::SEEN, point);
-    (wide(w.seenowner) < d)
-        & (wide(w.candidate) < d)
-        & (w.own <= made)
-        & (w.seenspin <= seenmade)
-        & (w.candidatespin <= candidatemade)
-        & (!((point == 25) | (point == 35) | (point == 45)) | (0 < w.seenspin))
-        & (places::has(places::OWN, point) | (w.own == 0))
-        & (seen | (w.seenowner == 0))
-        & (seen | (w.seenspin == 0))
-        & (places::has(places::CANDIDATE, point) | (w.candidate == 0))
-        & (places::has(places::CANDIDATE_SPIN, point) | (w.candidatespin == 0))
 }
 
 // The copy sets of a port that has made so many spins.
@@ -89,65 +81,88 @@ fn copies_good(d: u64, made: u16, c: Copies) -> bool
         & (!(made == 0) | (c.spin == 0))
 }
 
-// Room kept for ports at or above D is all 0.
-fn port_empty(p: Port, c: Copies) -> bool
-    ensures { λ r. ⌜ r ≡ Good.portEmpty p c ⌝ }
+// The rules for port k that look at no other port: fields, copy sets, own spin.
+pub fn own_good(s: Shared, k: u64, p: Port, c: Copies) -> bool
+    ensures { λ r. ⌜ r ≡ Rules.ownRules s k p c ⌝ }
 {
-    (p.point == 0)
-        & (p.status == 0)
-        & (p.flag == 0)
-        & (p.value == 0)
-        & (p.made == 0)
-        & (p.go == 0)
-        & (p.work.own == 0)
-        & (p.work.seenowner == 0)
-        & (p.work.seenspin == 0)
-        & (p.work.candidate == 0)
-        & (p.work.candidatespin == 0)
-        & (c.status == 0)
-        & (c.go == 0)
-        & (c.spin == 0)
-}
-
-// The rules for place i of the table, with made of the port's seen owner and of its candidate.
-pub fn place_good(s: Shared, i: u64, p: Port, c: Copies, seenmade: u16, candidatemade: u16) -> bool
-    ensures { λ r. ⌜ r ≡ Rules.placeRules s i p c seenmade candidatemade ⌝ }
-{
-    let d = s.d;
-    if i < d {
-        fields_good(s.active, i, p)
-            & work_good(d, p.point, p.made, seenmade, candidatemade, p.work)
-            & copies_good(d, p.made, c)
-    } else {
-        port_empty(p, c)
-    }
-}
-
-// The place of port j in the table; any place where there is no such port.
-fn slot(j: u8) -> usize
-    ensures { λ r. ⌜ (r < room) × (j < room → r ≡ j) ⌝ }
-{
-    if (j as usize) < ROOM { j as usize } else { 0 }
-}
-
-// A table is good.
-pub fn good(table: Table) -> bool
-    ensures { λ r. ⌜ r ≡ Good.good table ⌝ }
-{
-    let s = table.shared;
-    if !size_good(s.d) {
+    let own = p.work.own;
+    if !fields_good(s.active, k, p) {
         return false;
     }
-    let o = slot(s.word.owner);
-    let mut ok = shared_good(s, table.ports[o].made);
-    let mut i: usize = 0;
-    while i < ROOM {
-        let p = table.ports[i];
-        let c = table.copies[i];
-        let a = slot(p.work.seenowner);
-        let b = slot(p.work.candidate);
-        ok = ok & place_good(s, i as u64, p, c, table.ports[a].made, table.ports[b].made);
-        i += 1;
+    if !copies_good(s.d, p.made, c) {
+        return false;
     }
-    ok
+    if p.made < own {
+        return false;
+    }
+    places::has(places::OWN, p.point) | (own == 0)
+}
+
+// What a port has seen, at a point without a place for it.
+pub fn unseen_good(d: u64, w: Work) -> bool
+    ensures { λ r. ⌜ r ≡ Rules.unseenRules d w ⌝ }
+{
+    (0 < d) & ((w.seenowner | w.candidate) == 0) & ((w.seenspin | w.candidatespin) == 0)
+}
+
+// What a port has seen, at the other points, with made of its seen owner and of its candidate.
+pub fn seen_good(d: u64, point: u8, seenmade: u16, candidatemade: u16, w: Work) -> bool
+    ensures { λ r. ⌜ r ≡ Rules.seenRules d point seenmade candidatemade w ⌝ }
+{
+    (wide(w.seenowner) < d)
+        & (wide(w.candidate) < d)
+        & (w.seenspin <= seenmade)
+        & (w.candidatespin <= candidatemade)
+        & (!((point == 25) | (point == 35) | (point == 45)) | (0 < w.seenspin))
+        & (places::has(places::CANDIDATE, point) | (w.candidate == 0))
+        & (places::has(places::CANDIDATE_SPIN, point) | (w.candidatespin == 0))
+}
+
+// All rules for port k, with made of its seen owner and of its candidate.
+pub fn port_good(s: Shared, k: u64, p: Port, c: Copies, seenmade: u16, candidatemade: u16) -> bool
+    ensures { λ r. ⌜ r ≡ Rules.portRules s k p c seenmade candidatemade ⌝ }
+{
+    if !own_good(s, k, p, c) {
+        return false;
+    }
+    if !places::has(places::SEEN, p.point) {
+        return unseen_good(s.d, p.work);
+    }
+    seen_good(s.d, p.point, seenmade, candidatemade, p.work)
+}
+
+// The fields of a port of one byte, and those of two, joined bit by bit.
+fn joined_bytes(p: Port) -> u8
+    ensures { λ r. ⌜ r ≡ bitOr (bitOr (bitOr (bitOr (bitOr (p .point) (p .status)) (p .flag)) (p .value)) (p .work .seenowner)) (p .work .candidate) ⌝ }
+{
+    p.point | p.status | p.flag | p.value | p.work.seenowner | p.work.candidate
+}
+
+fn joined_spins(p: Port) -> u16
+    ensures { λ r. ⌜ r ≡ bitOr (bitOr (bitOr (bitOr (p .made) (p .go)) (p .work .own)) (p .work .seenspin)) (p .work .candidatespin) ⌝ }
+{
+    p.made | p.go | p.work.own | p.work.seenspin | p.work.candidatespin
+}
+
+// All that is kept for a port, joined bit by bit: 0 where each of it is.
+pub fn joined(p: Port, c: Copies) -> u64
+    ensures { λ r. ⌜ r ≡ Rules.joinedPort p c ⌝ }
+{
+    c.status | c.go | c.spin | wide(joined_bytes(p)) | wide16(joined_spins(p))
+}
+
+// How many ports are tested: D, or none where it is out of range.
+pub fn ports(d: u64) -> usize
+    ensures { λ r. ⌜ r ≡ Rules.portsOf d ⌝ }
+    ensures { λ r. ⌜ r ≤ room ⌝ }
+{
+    if size_good(d) { d as usize } else { 0 }
+}
+
+// The place of port k in a table; place 0 where a table has no room for it.
+pub fn slot(k: u64) -> usize
+    ensures { λ r. ⌜ r ≡ Rules.slotOf k ⌝ }
+    ensures { λ r. ⌜ r < room ⌝ }
+{
+    if k < ROOM as u64 { k as usize } else { 0 }
 }

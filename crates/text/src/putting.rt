@@ -4,6 +4,7 @@ use model::Word;
 ghost use mathlib.Core.Path.{_≡_};
 ghost use Prim.Native.Nat.{_+_, _%_, _<_};
 ghost use mathlib.Core.List.{_∷_, [], _++_};
+ghost use lib.ListN.{length};
 ghost use Rattle.lines.specs.Line.{newline, space};
 ghost use Rattle.text.specs.Text as Text;
 ghost use Rattle.text.specs.Parts as Parts;
@@ -35,26 +36,34 @@ fn last_digit(n: u64) -> u8
     48 + (n % 10) as u8
 }
 
-fn put_digits(out: &mut [u8], at: usize, n: u64) -> usize
-    requires { ⌜ at + 20 < limit ⌝ }
-    ensures { λ r. ⌜ Put (now (out .entry)) at (Text.decimal n) 20 r (now (out .exit)) ⌝ }
+// How many digits n has.
+fn digits(n: u64) -> usize
+    ensures { λ r. ⌜ r ≡ length (Text.decimal n) ⌝ }
 {
-    if n < 10 {
-        return put(out, at, last_digit(n));
+    let mut x = n;
+    let mut c: usize = 1;
+    while 10 <= x {
+        x = x / 10;
+        c += 1;
     }
-    let next = put_digits(out, at, n / 10);
-    put(out, next, last_digit(n))
+    c
 }
 
-// The same, with the short way for one digit where it is called.
+// A number in decimal: its digits are counted, and then put from the last to the first.
 fn put_decimal(out: &mut [u8], at: usize, n: u64) -> usize
     requires { ⌜ at + 20 < limit ⌝ }
     ensures { λ r. ⌜ Put (now (out .entry)) at (Text.decimal n) 20 r (now (out .exit)) ⌝ }
 {
-    if n < 10 {
-        return put(out, at, last_digit(n));
+    let end = at + digits(n);
+    let mut x = n;
+    let mut i = end;
+    while 10 <= x {
+        i -= 1;
+        put(out, i, last_digit(x));
+        x = x / 10;
     }
-    put_digits(out, at, n)
+    put(out, at, last_digit(x));
+    end
 }
 
 fn put_cell(out: &mut [u8], at: usize, n: u64, after: u8) -> usize

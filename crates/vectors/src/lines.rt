@@ -27,19 +27,18 @@ fn image_right(bytes: &[u8], number: u64, want: &[u8]) -> bool {
     (answers::number(answer) == number) & written(made.table, want)
 }
 
-// The line of an image at a place: the image, `-` for no bytes, the number, and the bytes written back.
+// The line of an image at a place: the image, the number, and the bytes written back.
 fn image_line(text: &[u8], at: usize) -> Line {
     let mut bytes = [0u8; SPACE];
-    let n = text::bytes_at(text, at, &mut bytes);
-    let wide = if n == 0 { 1 } else { 2 * n };
-    let number = text::number_at(text, text::after(text::after(at, wide), 1));
-    let back = text::after(number.next, 1);
+    let first = text::field_at(text, at, &mut bytes);
+    let image = text::start(&bytes, first.length);
+    let number = text::number_at(text, text::after(first.next, 1));
     let mut want = [0u8; SPACE];
-    let m = text::bytes_at(text, back, &mut want);
+    let last = text::last_at(text, text::after(number.next, 1), image, &mut want);
     Line {
-        next: text::after(text::after(back, 2 * m), 1),
+        next: text::after(last.next, 1),
         number: number.value,
-        right: image_right(text::start(&bytes, n), number.value, text::start(&want, m)),
+        right: image_right(image, number.value, text::start(&want, last.length)),
     }
 }
 
@@ -83,15 +82,15 @@ fn event_right(bytes: &[u8], n: Numbers, want: &[u8]) -> bool {
 // The line of an event at a place: an image, port, event, the number, both costs, and the image of the table after it.
 fn event_line(text: &[u8], at: usize) -> Line {
     let mut bytes = [0u8; SPACE];
-    let k = text::bytes_at(text, at, &mut bytes);
-    let n = numbers_at(text, text::after(at, 2 * k));
-    let back = text::after(n.next, 1);
+    let first = text::field_at(text, at, &mut bytes);
+    let image = text::start(&bytes, first.length);
+    let n = numbers_at(text, first.next);
     let mut want = [0u8; SPACE];
-    let m = text::bytes_at(text, back, &mut want);
+    let last = text::last_at(text, text::after(n.next, 1), image, &mut want);
     Line {
-        next: text::after(text::after(back, 2 * m), 1),
+        next: text::after(last.next, 1),
         number: n.number,
-        right: event_right(text::start(&bytes, k), n, text::start(&want, m)),
+        right: event_right(image, n, text::start(&want, last.length)),
     }
 }
 

@@ -2,7 +2,13 @@
 ghost use Prim.Native.Nat.{_≤_};
 
 // The most bytes that are read of one field.
-pub const SPACE: usize = 400;
+pub const SPACE: usize = 2602;
+
+// A field that stands for bytes: how many, and the place after it.
+pub struct Field {
+    pub length: usize,
+    pub next: usize,
+}
 
 // A number, and the place after it.
 pub struct Number {
@@ -48,8 +54,8 @@ pub fn start(s: &[u8], n: usize) -> &[u8] {
 }
 
 // Reads bytes at a place into `out`, and gives how many there are.
-pub fn bytes_at(text: &[u8], at: usize, out: &mut [u8]) -> usize
-    ensures { λ r. ⌜ r ≤ 400 ⌝ }
+fn bytes_at(text: &[u8], at: usize, out: &mut [u8]) -> usize
+    ensures { λ r. ⌜ r ≤ 2602 ⌝ }
 {
     let mut n: usize = 0;
     while n < SPACE {
@@ -63,6 +69,32 @@ pub fn bytes_at(text: &[u8], at: usize, out: &mut [u8]) -> usize
         n += 1;
     }
     n
+}
+
+// The field of bytes at a place; `-` stands for no bytes.
+pub fn field_at(text: &[u8], at: usize, out: &mut [u8]) -> Field {
+    let n = bytes_at(text, at, out);
+    let wide = if n == 0 { 1 } else { 2 * n };
+    Field {
+        length: n,
+        next: after(at, wide),
+    }
+}
+
+// The last field of a line; `=` stands for the first one again.
+pub fn last_at(text: &[u8], at: usize, first: &[u8], out: &mut [u8]) -> Field {
+    if byte_at(text, at) != 61 {
+        return field_at(text, at, out);
+    }
+    let mut i: usize = 0;
+    while i < first.len() {
+        store(out, i, first[i]);
+        i += 1;
+    }
+    Field {
+        length: first.len(),
+        next: after(at, 1),
+    }
 }
 
 // Reads a number of at most nine digits at a place.

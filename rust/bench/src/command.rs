@@ -28,11 +28,11 @@ pub fn main(jobs: &[Job], functions: &[(&str, Probe)]) -> ExitCode {
 }
 
 fn answer(jobs: &[Job], functions: &[(&str, Probe)], words: &[&str]) -> Option<String> {
-    let find = |name: &str| jobs.iter().find(|job| job.name == name);
+    let find = |name: &str| jobs.iter().find(|job| job.name() == name);
     let number = |word: &str| word.parse::<usize>().ok();
     match *words {
         ["jobs"] => {
-            let names: Vec<&str> = jobs.iter().map(|job| job.name).collect();
+            let names: Vec<String> = jobs.iter().map(Job::name).collect();
             Some(names.join("\n"))
         }
         ["count", name, side, orders, rounds] => {

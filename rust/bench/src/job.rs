@@ -1,9 +1,12 @@
 //! A job: the same work by the archive and by the reference.
 
 use crate::orders::orders;
-use reference::{boundary, length};
+use reference::{in_place, length};
 use std::hint::black_box;
 use std::time::Instant;
+
+/// The numbers of ports that each job is done at.
+pub const SIZES: [u64; 4] = [1, 4, 16, 64];
 
 /// What a job works on.
 pub struct Task {
@@ -23,15 +26,18 @@ pub struct Answers {
     pub numbers: Vec<u64>,
     /// Room for one image of D ports.
     pub image: Vec<u8>,
+    /// Room for the image after it, where an event leaves the first as it is.
+    pub next: Vec<u8>,
 }
 
 /// One side of a job, all orders once.
 pub type Work = fn(&Task, &mut Answers);
 
 /// A job and both sides of it.
+#[derive(Clone, Copy)]
 pub struct Job {
-    /// Its name on the command line.
-    pub name: &'static str,
+    /// What is done.
+    pub what: &'static str,
     /// D.
     pub d: u64,
     /// Whether it reads the images along the way.
@@ -42,9 +48,27 @@ pub struct Job {
     pub reference: Work,
 }
 
-/// Number, cached and distributed cost as one answer.
-pub fn packed((number, cached, distributed): (u64, u64, u64)) -> u64 {
-    number + 256 * cached + 65536 * distributed
+impl Job {
+    /// The same work at each size.
+    pub fn at_each_size(
+        what: &'static str,
+        reads: bool,
+        ours: Work,
+        reference: Work,
+    ) -> [Job; SIZES.len()] {
+        SIZES.map(|d| Job {
+            what,
+            d,
+            reads,
+            ours,
+            reference,
+        })
+    }
+
+    /// Its name on the command line.
+    pub fn name(&self) -> String {
+        format!("{}-{}", self.what, self.d)
+    }
 }
 
 impl Task {
@@ -52,12 +76,12 @@ impl Task {
     pub fn new(d: u64, count: usize, reads: bool) -> Task {
         let orders = orders(d, count);
         let mut fresh = vec![0; length(d as usize)];
-        boundary::fresh(d, &mut fresh);
+        in_place::fresh(d, &mut fresh);
         let mut images = Vec::new();
         if reads {
             let mut image = fresh.clone();
             for order in orders.chunks_exact(2) {
-                boundary::event(&mut image, order[0], order[1]);
+                in_place::event(&mut image, order[0], order[1]);
                 images.extend_from_slice(&image);
             }
         }
@@ -74,6 +98,7 @@ impl Task {
         Answers {
             numbers: vec![0; self.orders.len() / 2],
             image: vec![0; self.fresh.len()],
+            next: vec![0; self.fresh.len()],
         }
     }
 }

@@ -26,20 +26,23 @@ pub fn orders(d: u64, count: usize) -> Vec<u64> {
 #[cfg(test)]
 mod tests {
     use super::orders;
+    use crate::job::SIZES;
     use reference::{event, fresh};
 
     /// The mix gets ports in and out again: a measurement of refusals alone would say nothing.
     #[test]
     fn the_mix_is_alive() {
-        let (_, mut table) = fresh(16);
-        let (mut done, mut left) = (0, 0);
-        for order in orders(16, 10_000).chunks_exact(2) {
-            if event(&mut table, order[0], order[1]).0 == 0 {
-                done += 1;
-                left += u64::from(order[1] == 5);
+        for d in SIZES {
+            let (_, mut table) = fresh(d);
+            let (mut done, mut left) = (0, 0);
+            for order in orders(d, 10_000).chunks_exact(2) {
+                if event(&mut table, order[0], order[1]).0 == 0 {
+                    done += 1;
+                    left += u64::from(order[1] == 5);
+                }
             }
+            assert!(done > 5_000, "{done} carried out at D = {d}");
+            assert!(left > 5, "{left} left at D = {d}");
         }
-        assert!(done > 7_000, "{done} carried out");
-        assert!(left > 10, "{left} left");
     }
 }

@@ -1,7 +1,7 @@
 //! Tables, schedules and damaged images made at random.
 
 use crate::random::Random;
-use reference::{good, order, points, Port, Table, Word, ROOM};
+use reference::{good, order, points, Port, Table, Word, LONGEST, ROOM};
 
 /// Points of every kind, those of the promotion and those that touch ACTIVE or the word more often.
 const POINTS: [u8; 52] = [
@@ -109,7 +109,7 @@ fn spin_near(random: &mut Random, made: u16, near: u16) -> u16 {
 
 /// A set of ports below D: none, all, or any.
 fn below_d(random: &mut Random, d: u64) -> u64 {
-    let all = (1 << d) - 1;
+    let all = u64::MAX >> (u64::BITS as u64 - d);
     match random.below(6) {
         0 => 0,
         1 => all,
@@ -117,13 +117,20 @@ fn below_d(random: &mut Random, d: u64) -> u64 {
     }
 }
 
-/// A number of ports from 1 to the room, the ends more often.
+/// The most ports of an image of version 1.
+const NARROW: u64 = 16;
+
+/// A number of ports from 1 to the room: half of them of each version, and the ends of either more often.
 pub fn size(random: &mut Random) -> u64 {
-    match random.below(8) {
+    match random.below(16) {
         0 => 1,
         1 => 2,
-        2 => ROOM as u64,
-        _ => 1 + random.below(ROOM as u64),
+        2 => NARROW,
+        3..=7 => 1 + random.below(NARROW),
+        8 => NARROW + 1,
+        9 => ROOM as u64 - 1,
+        10 => ROOM as u64,
+        _ => NARROW + 1 + random.below(ROOM as u64 - NARROW),
     }
 }
 
@@ -202,18 +209,19 @@ fn next_event(random: &mut Random, port: &Port, mood: Mood) -> u64 {
     }
 }
 
-/// An image with something wrong, or at least changed: a byte, a field of the head, the length, or all of it.
+/// An image with something wrong, or at least changed: a byte, a field of the head, version and D that do not go together, the
+/// length, or all of it.
 pub fn damaged(random: &mut Random, image: &[u8]) -> Vec<u8> {
     let mut bytes = image.to_vec();
     let length = bytes.len() as u64;
-    match random.below(8) {
+    match random.below(11) {
         0..=2 => {
             let place = random.below(length) as usize;
             bytes[place] ^= 1 << random.below(8);
         }
         3 => {
             let place = random.below(length) as usize;
-            bytes[place] = random.one_of(&[0, 1, 2, 7, 16, 17, 0xFE, 0xFF]);
+            bytes[place] = random.one_of(&[0, 1, 2, 7, 16, 17, 64, 65, 0xFE, 0xFF]);
         }
         4 => {
             let place = random.below(14) as usize;
@@ -225,7 +233,45 @@ pub fn damaged(random: &mut Random, image: &[u8]) -> Vec<u8> {
                 bytes.push(random.one_of(&[0, 1, 0xFF]));
             }
         }
+        7 => bytes[0] = random.one_of(&[0, 1, 2, 3, 4, 0xFF]),
+        8 => bytes[1] = random.one_of(&[0, 1, 16, 17, 64, 65, 0xFF]),
+        9 => bytes = other_version(image),
         _ => bytes.iter_mut().for_each(|b| *b = random.number() as u8),
     }
     bytes
+}
+
+/// The same table in the form of the version that does not go with its D, whole but for that: copy sets get eight bytes in
+/// place of two, or keep two of eight.
+pub fn other_version(image: &[u8]) -> Vec<u8> {
+    let d = usize::from(image[1]);
+    let sets = 26 + 16 * d;
+    let (version, width, other) = match image[0] {
+        1 => (2, 2, 8),
+        _ => (1, 8, 2),
+    };
+    let mut bytes = image[..sets].to_vec();
+    for set in image[sets..].chunks_exact(width) {
+        let mut wide = [0; 8];
+        wide[..width].copy_from_slice(set);
+        bytes.extend_from_slice(&wide[..other]);
+    }
+    bytes[0] = version;
+    let long = (bytes.len() - sets) as u16;
+    bytes[12..14].copy_from_slice(&long.to_le_bytes());
+    bytes
+}
+
+/// A length for the room that the image after an event is to go into: too short, just right, or longer.
+pub fn room_for(random: &mut Random, image: &[u8]) -> usize {
+    let long = image.len();
+    match random.below(8) {
+        0 => 0,
+        1 => random.below(long as u64 + 1) as usize,
+        2 => long.saturating_sub(1),
+        3 => long + 1,
+        4 => long + random.below(100) as usize,
+        5 => LONGEST,
+        _ => long,
+    }
 }

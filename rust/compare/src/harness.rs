@@ -1,7 +1,7 @@
 //! The comparisons. Each gives how many answers were compared, or tells the first difference.
 
 use crate::engine::{Engine, Reference};
-use crate::generate::{any_order, damaged, good_table, schedule, size, Mood};
+use crate::generate::{any_order, damaged, good_table, room_for, schedule, size, Mood};
 use crate::random::Random;
 use reference::{length, write, Table, LONGEST, ROOM};
 
@@ -62,7 +62,8 @@ pub fn fresh_tables(engine: &impl Engine) -> Result<u64, Difference> {
     Ok(count)
 }
 
-/// Events on good tables that mostly no schedule reaches, at every D: eight events of each table.
+/// Events on good tables that mostly no schedule reaches, at every D: eight events of each table, where it stands and into another
+/// room.
 pub fn events(engine: &impl Engine, seed: u64, tables: u64) -> Result<u64, Difference> {
     let mut random = Random::new(seed);
     let mut count = 0;
@@ -72,7 +73,9 @@ pub fn events(engine: &impl Engine, seed: u64, tables: u64) -> Result<u64, Diffe
         for _ in 0..8 {
             let (port, order) = any_order(&mut random, d);
             one_event(engine, &before, port, order)?;
-            count += 1;
+            let room = room_for(&mut random, &before);
+            one_event_into(engine, &before, room, port, order)?;
+            count += 2;
         }
     }
     Ok(count)
@@ -91,6 +94,36 @@ fn one_event(engine: &impl Engine, before: &[u8], port: u64, order: u64) -> Resu
     same_bytes(what, &got, &want)
 }
 
+/// One event from an image of any kind into a room of so many bytes. The image stays, and so does what is not written of the room.
+fn one_event_into(
+    engine: &impl Engine,
+    before: &[u8],
+    room: usize,
+    port: u64,
+    order: u64,
+) -> Result<(), Difference> {
+    let image = before.to_vec();
+    let (mut got, mut want) = (vec![FILL; room], vec![FILL; room]);
+    let answers = (
+        engine.event_into(&image, &mut got, port, order),
+        Reference.event_into(&image, &mut want, port, order),
+    );
+    let what = || {
+        format!(
+            "event {order} of port {port} into {room} bytes, from {}",
+            hex(before)
+        )
+    };
+    same(what, answers.0, answers.1)?;
+    same_bytes(what, &got, &want)?;
+    same_bytes(|| format!("{}, the image itself", what()), &image, before)
+}
+
+/// Every D in turn, with near turns far apart.
+fn every_size(turn: u64) -> u64 {
+    1 + 29 * turn % ROOM as u64
+}
+
 /// Schedules with crashes and call-offs from fresh tables, event by event. The image is looked at after each.
 pub fn schedules(
     engine: &impl Engine,
@@ -101,7 +134,7 @@ pub fn schedules(
     let mut random = Random::new(seed);
     let mut count = 0;
     for turn in 0..schedules {
-        let d = 1 + turn % ROOM as u64;
+        let d = every_size(turn);
         let mood = Mood::any(&mut random);
         let mut got = vec![FILL; length(d as usize)];
         let mut want = got.clone();
@@ -131,7 +164,7 @@ pub fn runs(engine: &impl Engine, seed: u64, lists: u64, long: usize) -> Result<
     let mut random = Random::new(seed);
     let mut count = 0;
     for turn in 0..lists {
-        let d = 1 + turn % ROOM as u64;
+        let d = every_size(turn);
         let mood = Mood::any(&mut random);
         let pairs = 1 + random.below(long as u64) as usize;
         let mut orders: Vec<u64> = schedule(&mut random, d, mood, pairs)
@@ -189,7 +222,8 @@ fn one_run(
     same_bytes(what, &got, &want)
 }
 
-/// Images whole and damaged: what the check answers; and that an event and a run on a damaged one leave every byte.
+/// Images of both versions, whole and damaged: what the check answers; and that an event and a run on a damaged one leave every
+/// byte.
 pub fn images(engine: &impl Engine, seed: u64, tables: u64) -> Result<u64, Difference> {
     let mut random = Random::new(seed);
     let mut count = 0;
@@ -204,16 +238,18 @@ pub fn images(engine: &impl Engine, seed: u64, tables: u64) -> Result<u64, Diffe
         }
         let (port, order) = any_order(&mut random, d);
         one_event(engine, &other, port, order)?;
+        let room = room_for(&mut random, &other);
+        one_event_into(engine, &other, room, port, order)?;
         one_run(engine, &other, &[port, order], 2)?;
-        count += 2;
+        count += 3;
     }
     Ok(count)
 }
 
-/// Every value of every byte of one image.
-pub fn every_byte(engine: &impl Engine, seed: u64) -> Result<u64, Difference> {
+/// Every value of every byte of one image of `d` ports.
+pub fn every_byte(engine: &impl Engine, seed: u64, d: u64) -> Result<u64, Difference> {
     let mut random = Random::new(seed);
-    let mut bytes = image(&good_table(&mut random, 3));
+    let mut bytes = image(&good_table(&mut random, d));
     let mut count = 0;
     for place in 0..bytes.len() {
         let whole = bytes[place];
@@ -231,10 +267,11 @@ pub fn every_byte(engine: &impl Engine, seed: u64) -> Result<u64, Difference> {
 /// All comparisons, with about `events` events in all; gives how many answers were compared.
 pub fn all(engine: &impl Engine, seed: u64, total: u64) -> Result<u64, Difference> {
     let mut count = fresh_tables(engine)?;
-    count += every_byte(engine, seed)?;
+    count += every_byte(engine, seed, 3)?;
     count += events(engine, seed, total / 32)?;
     count += schedules(engine, seed, total / 4 / 500, 500)?;
     count += runs(engine, seed, total / 4 / 200, 400)?;
     count += images(engine, seed, total / 16)?;
+    count += every_byte(engine, seed, 17)?;
     Ok(count)
 }

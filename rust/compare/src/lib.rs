@@ -1,5 +1,5 @@
-//! Compares an engine behind the boundary's four functions with the reference: random good tables, random schedules with crashes
-//! and call-offs, runs, images whole and damaged, at every D.
+//! Compares an engine behind the boundary's functions with the reference: random good tables, random schedules with crashes
+//! and call-offs, runs, events from one image into another, images of both versions whole and damaged, at every D.
 //!
 //! The numbers come from a seed, so a difference that is told can be tried again.
 
@@ -10,5 +10,5 @@ pub mod generate;
 pub mod harness;
 mod random;
 
-pub use engine::{Archive, Engine, Reference};
+pub use engine::{Archive, Engine, InPlace, Reference};
 pub use random::Random;

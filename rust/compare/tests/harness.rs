@@ -1,9 +1,9 @@
 //! The harness itself: the reference passes, and an engine with one thing wrong is noticed, whatever the thing.
 
-use compare::{generate, harness, Engine, Random, Reference};
+use compare::{generate, harness, Engine, InPlace, Random, Reference};
 use reference::number::*;
 use reference::order::*;
-use reference::{event_unchecked, good, points, read, write, Table};
+use reference::{event_unchecked, good, packed, points, read, write, Table, ROOM};
 
 /// Enough events for every mistake below to be met.
 const EVENTS: u64 = 60_000;
@@ -26,10 +26,6 @@ impl Mistaken {
     }
 }
 
-fn packed(answer: Answer) -> u64 {
-    answer.0 + 256 * answer.1 + 65536 * answer.2
-}
-
 impl Engine for Mistaken {
     fn fresh(&self, d: u64, room: &mut [u8]) -> u64 {
         Reference.fresh(d, room)
@@ -47,6 +43,19 @@ impl Engine for Mistaken {
         let answer = Mistaken::event(self, &mut table, port, event);
         write(&table, image);
         packed(answer)
+    }
+
+    fn event_into(&self, image: &[u8], next: &mut [u8], port: u64, event: u64) -> u64 {
+        let mut after = image.to_vec();
+        let answer = Engine::event(self, &mut after, port, event);
+        match next.get_mut(..after.len()) {
+            _ if answer & 255 != DONE => answer,
+            Some(room) => {
+                room.copy_from_slice(&after);
+                answer
+            }
+            None => SHORT_ROOM,
+        }
     }
 
     fn run(&self, image: &mut [u8], orders: &[u64], answers: &mut [u64]) -> u64 {
@@ -69,7 +78,13 @@ fn stepped(before: &Table, port: u64, event: u64, answer: &Answer) -> Option<u8>
 }
 
 /// Mistakes that a tired engineer might make, each with a name.
-const MISTAKES: [(&str, Mistake); 13] = [
+const MISTAKES: [(&str, Mistake); 15] = [
+    ("ACTIVE has 32 bits", |_, t, _, _, _| {
+        t.active &= 0xFFFF_FFFF;
+    }),
+    ("a copy set has 16 bits", |_, t, _, _, _| {
+        t.word_copies &= 0xFFFF;
+    }),
     ("a crash lowers the flag", |_, t, port, event, answer| {
         if event == CRASH && answer.0 == DONE {
             t.ports[port as usize].flag = 0;
@@ -180,6 +195,11 @@ fn the_reference_passes() {
 }
 
 #[test]
+fn the_reference_in_place_is_the_reference() {
+    harness::all(&InPlace, SEED, 4 * EVENTS).unwrap();
+}
+
+#[test]
 fn every_mistake_in_events_is_noticed() {
     for (name, mistake) in MISTAKES {
         let told = harness::all(&Mistaken(mistake), SEED, EVENTS);
@@ -205,6 +225,32 @@ enum Other {
     TellsRefused,
     /// A run forgets to write the image back.
     ForgetsImage,
+    /// The check does not look at the version.
+    AnyVersion,
+    /// The check takes images of either version at every D.
+    EitherForm,
+    /// An event into another room puts a byte after the image.
+    IntoPutsAfter,
+    /// An event into another room is refused for the room before it is for itself.
+    IntoRoomFirst,
+    /// An event into another room that is refused clears the room.
+    IntoClearsRoom,
+    /// An event into another room puts as much of the image as the room holds.
+    IntoPutsAPart,
+    /// An event into another room wants a byte more than the image has.
+    IntoWantsMore,
+    /// An event into another room puts the image as it was.
+    IntoPutsTheOld,
+}
+
+/// Whether bytes are as long as version 1 or 2 has it, whatever their D.
+fn whole_by_its_form(image: &[u8]) -> bool {
+    let length = |d: usize| match image[0] {
+        1 => Some(30 + 22 * d),
+        2 => Some(42 + 40 * d),
+        _ => None,
+    };
+    image.len() > 14 && length(usize::from(image[1])) == Some(image.len())
 }
 
 impl Engine for Other {
@@ -223,20 +269,30 @@ impl Engine for Other {
         let number = Reference.check(image);
         match self {
             Other::TakesLonger if number == BAD_IMAGE && image.len() > 52 => {
-                let d = usize::from(image[1]).clamp(1, 16);
+                let d = usize::from(image[1]).clamp(1, ROOM);
                 let short = &image[..image.len().min(reference::length(d))];
                 Reference.check(short)
             }
             Other::SparesCopies if number == BAD_TABLE => {
                 let mut mended = image.to_vec();
-                for k in 0..usize::from(image[1]) {
+                let d = usize::from(image[1]);
+                let width = if d <= 16 { 2 } else { 8 };
+                for k in 0..d {
                     let made = 26 + 16 * k + 4;
-                    let spin = 26 + 16 * usize::from(image[1]) + 4 + 6 * k + 4;
+                    let spin = 26 + 16 * d + (2 + 3 * k + 2) * width;
                     if image[made..made + 2] == [0, 0] {
-                        mended[spin..spin + 2].fill(0);
+                        mended[spin..spin + width].fill(0);
                     }
                 }
                 Reference.check(&mended)
+            }
+            Other::AnyVersion if number == BAD_IMAGE && image.len() > 52 => {
+                let mut mended = image.to_vec();
+                mended[0] = if image[1] <= 16 { 1 } else { 2 };
+                Reference.check(&mended)
+            }
+            Other::EitherForm if number == BAD_IMAGE && whole_by_its_form(image) => {
+                Reference.check(&generate::other_version(image))
             }
             _ => number,
         }
@@ -246,6 +302,28 @@ impl Engine for Other {
         let answer = Reference.event(image, port, event);
         if matches!(self, Other::ChangesRefused) && answer == BAD_TABLE {
             image[14] ^= 1;
+        }
+        answer
+    }
+
+    fn event_into(&self, image: &[u8], next: &mut [u8], port: u64, event: u64) -> u64 {
+        let long = image.len();
+        let answer = Reference.event_into(image, next, port, event);
+        let done = answer & 255 == DONE;
+        match self {
+            Other::IntoPutsAfter if done && next.len() > long => next[long] ^= 1,
+            Other::IntoRoomFirst if next.len() < long && Reference.check(image) == DONE => {
+                return SHORT_ROOM;
+            }
+            Other::IntoClearsRoom if !done => next.fill(0),
+            Other::IntoPutsAPart if answer == SHORT_ROOM => {
+                next.copy_from_slice(&image[..next.len()]);
+            }
+            Other::IntoWantsMore if done && next.len() == long => {
+                return SHORT_ROOM;
+            }
+            Other::IntoPutsTheOld if done => next[..long].copy_from_slice(image),
+            _ => {}
         }
         answer
     }
@@ -279,6 +357,14 @@ fn every_mistake_elsewhere_is_noticed() {
         ("stops early", Other::StopsEarly),
         ("tells refused", Other::TellsRefused),
         ("forgets image", Other::ForgetsImage),
+        ("any version", Other::AnyVersion),
+        ("either form", Other::EitherForm),
+        ("into puts after", Other::IntoPutsAfter),
+        ("into room first", Other::IntoRoomFirst),
+        ("into clears room", Other::IntoClearsRoom),
+        ("into puts a part", Other::IntoPutsAPart),
+        ("into wants more", Other::IntoWantsMore),
+        ("into puts the old", Other::IntoPutsTheOld),
     ];
     for (name, other) in others {
         let told = harness::all(&other, SEED, EVENTS);

@@ -1,13 +1,9 @@
-//! The boundary's four functions over images in lent buffers, in safe Rust: what the archive must answer.
+//! The boundary's functions over images in lent buffers, in safe Rust, each by way of a table: what the archive must answer.
 
-use crate::events::{event_unchecked, fresh as fresh_table};
+use crate::events::{event_unchecked, fresh as fresh_table, packed};
 use crate::image::{encode, read, write};
-use crate::number::DONE;
-
-/// Number, cached and distributed cost as one answer.
-fn packed((number, cached, distributed): (u64, u64, u64)) -> u64 {
-    number + 256 * cached + 65536 * distributed
-}
+use crate::layout::length;
+use crate::number::{DONE, SHORT_ROOM};
 
 /// Writes the image of a fresh table at the start of `room`: number + 256 * the image's length.
 /// Refused (9, then 10), the room stays as it is and the length is 0.
@@ -16,8 +12,8 @@ pub fn fresh(d: u64, room: &mut [u8]) -> u64 {
     if number != DONE {
         return number;
     }
-    let (number, length) = write(&table, room);
-    number + 256 * length as u64
+    let (number, long) = write(&table, room);
+    number + 256 * long as u64
 }
 
 /// The reader's number.
@@ -36,6 +32,24 @@ pub fn event(image: &mut [u8], port: u64, event: u64) -> u64 {
     if answer.0 == DONE {
         encode(&table, image);
     }
+    packed(answer)
+}
+
+/// The same with the image after the event at the start of `next`; `image` stays, and so do the bytes after that image.
+/// Refused, by the reader, by the event, or as `SHORT_ROOM`, every byte of `next` stays.
+pub fn event_into(image: &[u8], next: &mut [u8], port: u64, event: u64) -> u64 {
+    let (number, mut table) = read(image);
+    if number != DONE {
+        return number;
+    }
+    let answer = event_unchecked(&mut table, port, event);
+    if answer.0 != DONE {
+        return answer.0;
+    }
+    let Some(after) = next.get_mut(..length(table.d as usize)) else {
+        return SHORT_ROOM;
+    };
+    encode(&table, after);
     packed(answer)
 }
 

@@ -5,7 +5,8 @@ use crate::good::good;
 use crate::number::*;
 use crate::order::*;
 use crate::steps::step;
-use crate::table::{Table, ROOM};
+use crate::table::{Port, Table, ROOM};
+use crate::words::{Words, WordsMut};
 
 /// The fresh table of `d` ports and `DONE`; any other `d` gives `BAD_SIZE` and the fresh table of one port.
 pub fn fresh(d: u64) -> (u64, Table) {
@@ -26,18 +27,56 @@ pub fn event(t: &mut Table, port: u64, event: u64) -> (u64, u64, u64) {
 
 /// The same on a table that is known to be good, without looking again.
 pub fn event_unchecked(t: &mut Table, port: u64, event: u64) -> (u64, u64, u64) {
-    let number = refusal(t, port, event);
-    if number != DONE {
-        return (number, 0, 0);
+    act(t, port, event)
+}
+
+/// Number, cached and distributed cost as one answer, as the boundary gives it.
+pub fn packed((number, cached, distributed): (u64, u64, u64)) -> u64 {
+    number + 256 * cached + 65536 * distributed
+}
+
+/// An event on the words of a good table.
+pub(crate) fn act(words: &mut impl WordsMut, port: u64, event: u64) -> (u64, u64, u64) {
+    match admitted(words, port, event) {
+        Ok(p) => carry_out(words, port as usize, p, event),
+        Err(number) => (number, 0, 0),
     }
-    let k = port as usize;
-    let p = &mut t.ports[k];
+}
+
+/// The port that an event on the words of a good table is carried out at, or the lowest number that refuses it.
+pub(crate) fn admitted(words: &impl Words, port: u64, event: u64) -> Result<Port, u64> {
+    if port >= words.d() as u64 {
+        return Err(NO_SUCH_PORT);
+    }
+    let p = words.port(port as usize);
+    let worn = p.made == u16::MAX;
+    match (event, p.point) {
+        (ENTER, 0) if worn => Err(WORN),
+        (ENTER, 0) => Ok(p),
+        (ENTER, _) => Err(BUSY),
+        (STEP | CRASH | CALL_OFF, 0) => Err(IDLE),
+        (STEP, 4) if worn => Err(WORN),
+        (STEP, 11) => Err(INSIDE),
+        (STEP | CRASH | CALL_OFF, _) => Ok(p),
+        (LEAVE, 11) => Ok(p),
+        (LEAVE, _) => Err(NOT_INSIDE),
+        _ => Err(NO_SUCH_EVENT),
+    }
+}
+
+/// An event of port `k`, which is `p`, that nothing refuses.
+pub(crate) fn carry_out(
+    words: &mut impl WordsMut,
+    k: usize,
+    mut p: Port,
+    event: u64,
+) -> (u64, u64, u64) {
+    let (mut cached, mut distributed) = (0, 0);
     match event {
         ENTER => p.point = 1,
         STEP => {
-            let (cached, distributed) = charge(t, k);
-            step(t, k);
-            return (DONE, cached, distributed);
+            (cached, distributed) = charge(words, k, &p);
+            step(words, k, &mut p);
         }
         CRASH => {
             p.point = 1;
@@ -50,26 +89,6 @@ pub fn event_unchecked(t: &mut Table, port: u64, event: u64) -> (u64, u64, u64) 
         CALL_OFF => p.flag = 1,
         _ => p.point = 13,
     }
-    (DONE, 0, 0)
-}
-
-/// The lowest number that applies to an event on a good table.
-fn refusal(t: &Table, port: u64, event: u64) -> u64 {
-    if port >= u64::from(t.d) {
-        return NO_SUCH_PORT;
-    }
-    let p = &t.ports[port as usize];
-    let worn = p.made == u16::MAX;
-    match (event, p.point) {
-        (ENTER, 0) if worn => WORN,
-        (ENTER, 0) => DONE,
-        (ENTER, _) => BUSY,
-        (STEP | CRASH | CALL_OFF, 0) => IDLE,
-        (STEP, 4) if worn => WORN,
-        (STEP, 11) => INSIDE,
-        (STEP | CRASH | CALL_OFF, _) => DONE,
-        (LEAVE, 11) => DONE,
-        (LEAVE, _) => NOT_INSIDE,
-        _ => NO_SUCH_EVENT,
-    }
+    words.set_port(k, p);
+    (DONE, cached, distributed)
 }

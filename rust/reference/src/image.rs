@@ -1,70 +1,11 @@
 //! Images: the writer and the reader.
 
 use crate::good::good;
+use crate::held::Held;
+use crate::layout::{contents, length, version, CONTENTS_PLACE, D_PLACE, VERSION_PLACE};
 use crate::number::*;
-use crate::table::{Copies, Port, Table, Word, ROOM};
-
-const VERSION: u8 = 1;
-/// Version, D, and three entries of four bytes.
-const HEAD: usize = 14;
-const SHARED: usize = 12;
-const PORT: usize = 16;
-const COPIES: usize = 6;
-
-/// The length of the longest image.
-pub const LONGEST: usize = length(ROOM);
-
-/// The length of the image of a table of `d` ports.
-pub const fn length(d: usize) -> usize {
-    HEAD + SHARED + d * PORT + 4 + d * COPIES
-}
-
-/// Start and length of the three bodies: shared, ports, copies.
-fn contents(d: usize) -> [(usize, usize); 3] {
-    let ports = HEAD + SHARED;
-    let copies = ports + d * PORT;
-    [
-        (HEAD, SHARED),
-        (ports, d * PORT),
-        (copies, length(d) - copies),
-    ]
-}
-
-/// Bytes that are put one after the other.
-struct Sink<'a> {
-    room: &'a mut [u8],
-    at: usize,
-}
-
-impl Sink<'_> {
-    fn put(&mut self, width: usize, value: u64) {
-        self.room[self.at..self.at + width].copy_from_slice(&value.to_le_bytes()[..width]);
-        self.at += width;
-    }
-}
-
-/// Bytes that are got one after the other.
-struct Source<'a> {
-    bytes: &'a [u8],
-    at: usize,
-}
-
-impl Source<'_> {
-    fn get(&mut self, width: usize) -> u64 {
-        let mut wide = [0; 8];
-        wide[..width].copy_from_slice(&self.bytes[self.at..self.at + width]);
-        self.at += width;
-        u64::from_le_bytes(wide)
-    }
-
-    fn byte(&mut self) -> u8 {
-        self.get(1) as u8
-    }
-
-    fn two(&mut self) -> u16 {
-        self.get(2) as u16
-    }
-}
+use crate::table::{Table, ROOM};
+use crate::words::WordsMut;
 
 /// Writes the image of a table at the start of `room`: the number and the image's length.
 /// Refused (`BAD_TABLE`, then `SHORT_ROOM`), the room stays as it is and the length is 0.
@@ -72,48 +13,38 @@ pub fn write(t: &Table, room: &mut [u8]) -> (u64, usize) {
     if !good(t) {
         return (BAD_TABLE, 0);
     }
-    let d = t.d as usize;
-    if room.len() < length(d) {
+    let long = length(t.d as usize);
+    let Some(image) = room.get_mut(..long) else {
         return (SHORT_ROOM, 0);
-    }
-    (DONE, encode(t, room))
+    };
+    encode(t, image);
+    (DONE, long)
 }
 
-/// Puts the image of a table whose D has room, good or not; gives its length.
-pub(crate) fn encode(t: &Table, room: &mut [u8]) -> usize {
+/// Puts the image of a table whose D has room, good or not, in bytes that are as long.
+pub(crate) fn encode(t: &Table, image: &mut [u8]) {
     let d = t.d as usize;
-    let mut s = Sink { room, at: 0 };
-    s.put(1, u64::from(VERSION));
-    s.put(1, u64::from(t.d));
-    for (start, long) in contents(d) {
-        s.put(2, start as u64);
-        s.put(2, long as u64);
+    put_head(d, image);
+    Held::new(d, image).set_all(t);
+}
+
+/// Puts version, D and contents.
+pub(crate) fn put_head(d: usize, image: &mut [u8]) {
+    image[VERSION_PLACE] = version(d);
+    image[D_PLACE] = d as u8;
+    for (at, number) in entries(d) {
+        image[at..at + 2].copy_from_slice(&number.to_le_bytes());
     }
-    s.put(8, t.active);
-    s.put(1, u64::from(t.word.taken));
-    s.put(1, u64::from(t.word.owner));
-    s.put(2, u64::from(t.word.spin));
-    for p in &t.ports[..d] {
-        s.put(1, u64::from(p.point));
-        s.put(1, u64::from(p.status));
-        s.put(1, u64::from(p.flag));
-        s.put(1, u64::from(p.value));
-        s.put(2, u64::from(p.made));
-        s.put(2, u64::from(p.go));
-        s.put(2, u64::from(p.own_spin));
-        s.put(1, u64::from(p.seen_owner));
-        s.put(2, u64::from(p.seen_spin));
-        s.put(1, u64::from(p.candidate));
-        s.put(2, u64::from(p.candidate_spin));
-    }
-    s.put(2, t.active_copies);
-    s.put(2, t.word_copies);
-    for c in &t.copies[..d] {
-        s.put(2, c.status);
-        s.put(2, c.go);
-        s.put(2, c.spin);
-    }
-    s.at
+}
+
+/// The numbers of the contents, start and length of each body, and where each stands.
+fn entries(d: usize) -> impl Iterator<Item = (usize, u16)> {
+    let numbers = contents(d)
+        .into_iter()
+        .flat_map(|(start, long)| [start, long]);
+    numbers
+        .enumerate()
+        .map(|(i, number)| (CONTENTS_PLACE + 2 * i, number as u16))
 }
 
 /// Reads an image: the number and the table.
@@ -130,47 +61,18 @@ pub fn read(bytes: &[u8]) -> (u64, Table) {
 
 /// The table that an image holds, good or not; none if length, version, D or contents are wrong.
 fn decode(bytes: &[u8]) -> Option<Table> {
-    let (&version, &d) = (bytes.first()?, bytes.get(1)?);
-    let ports = d as usize;
-    if version != VERSION || !(1..=ROOM).contains(&ports) || bytes.len() != length(ports) {
-        return None;
-    }
-    let mut s = Source { bytes, at: 2 };
-    for (start, long) in contents(ports) {
-        if s.get(2) != start as u64 || s.get(2) != long as u64 {
-            return None;
-        }
-    }
-    let mut t = Table::first(d);
-    t.active = s.get(8);
-    t.word = Word {
-        taken: s.byte(),
-        owner: s.byte(),
-        spin: s.two(),
-    };
-    for p in &mut t.ports[..ports] {
-        *p = Port {
-            point: s.byte(),
-            status: s.byte(),
-            flag: s.byte(),
-            value: s.byte(),
-            made: s.two(),
-            go: s.two(),
-            own_spin: s.two(),
-            seen_owner: s.byte(),
-            seen_spin: s.two(),
-            candidate: s.byte(),
-            candidate_spin: s.two(),
-        };
-    }
-    t.active_copies = s.get(2);
-    t.word_copies = s.get(2);
-    for c in &mut t.copies[..ports] {
-        *c = Copies {
-            status: s.get(2),
-            go: s.get(2),
-            spin: s.get(2),
-        };
-    }
+    let d = ports(bytes)?;
+    let mut t = Table::first(d as u8);
+    t.set_all(&Held::new(d, bytes));
     Some(t)
+}
+
+/// D of an image; none if length, version, D or contents are wrong.
+pub(crate) fn ports(bytes: &[u8]) -> Option<usize> {
+    let d = usize::from(*bytes.get(D_PLACE)?);
+    let right = (1..=ROOM).contains(&d)
+        && bytes[VERSION_PLACE] == version(d)
+        && bytes.len() == length(d)
+        && entries(d).all(|(at, number)| bytes[at..at + 2] == number.to_le_bytes());
+    right.then_some(d)
 }

@@ -1,6 +1,6 @@
-//! Document 01 in plain Rust: the table of one lock, its events and costs, images and listings.
+//! Document 01 with request R-1 in plain Rust: the table of one lock, its events and costs, images and listings.
 //!
-//! It is written from the document alone, so that the proved engine can be compared with it. Nothing here is proved.
+//! It is written from the documents alone, so that the proved engine can be compared with it. Nothing here is proved.
 
 #![deny(missing_docs)]
 
@@ -8,15 +8,20 @@ pub mod boundary;
 mod costs;
 mod events;
 mod good;
+mod held;
 mod image;
+pub mod in_place;
+mod layout;
 pub mod listing;
 pub mod points;
 mod steps;
 mod table;
+mod words;
 
-pub use events::{event, event_unchecked, fresh};
+pub use events::{event, event_unchecked, fresh, packed};
 pub use good::good;
-pub use image::{length, read, write, LONGEST};
+pub use image::{read, write};
+pub use layout::{length, LONGEST};
 pub use steps::next;
 pub use table::{Copies, Port, Table, Word, ROOM};
 

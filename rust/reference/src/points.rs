@@ -72,6 +72,8 @@ pub fn candidate_spin_has(point: u8) -> bool {
 }
 
 /// The word that a step at a point touches, and how. Points 2 and 9 touch none; there is no step at 0 and 11.
+// Each step asks once, of a table or of an image: the hint keeps it from being a call.
+#[inline]
 pub fn touch(point: u8) -> Option<(Object, Kind)> {
     match point {
         1 => Some((Object::Status, Kind::Read)),

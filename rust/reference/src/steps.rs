@@ -2,7 +2,8 @@
 
 use crate::points::{back, candidate_has, candidate_spin_has, own_spin_has, promotion, seen_has};
 use crate::status;
-use crate::table::{Table, Word};
+use crate::table::{Port, Word};
+use crate::words::{Cell, WordsMut};
 
 /// The first port after `o` whose bit stands in `a`, counted upward and round the ring, `o` itself last.
 /// Asked only of a set that isn't empty and of an owner below 64.
@@ -12,37 +13,35 @@ pub fn next(o: u8, a: u64) -> u8 {
     half.trailing_zeros() as u8
 }
 
-/// One step of port `k`, which stands at a point that has one. The costs are worked out before it.
-pub(crate) fn step(t: &mut Table, k: usize) {
-    let point = t.ports[k].point;
-    let after = match promotion(point) {
-        Some(units) => promote(t, k, point - units, units),
-        None => walk(t, k, point),
+/// One step of port `k`, which stands at a point that has one and is `p`. The costs are worked out before it, and `p` is put
+/// back after it.
+pub(crate) fn step(words: &mut impl WordsMut, k: usize, p: &mut Port) {
+    p.point = match promotion(p.point) {
+        Some(units) => promote(words, k, p, p.point - units, units),
+        None => walk(words, k, p),
     };
-    let p = &mut t.ports[k];
-    p.point = after;
     // Every working value that has no place at the next point becomes 0.
-    if !own_spin_has(after) {
+    if !own_spin_has(p.point) {
         p.own_spin = 0;
     }
-    if !seen_has(after) {
+    if !seen_has(p.point) {
         p.seen_owner = 0;
         p.seen_spin = 0;
     }
-    if !candidate_has(after) {
+    if !candidate_has(p.point) {
         p.candidate = 0;
     }
-    if !candidate_spin_has(after) {
+    if !candidate_spin_has(p.point) {
         p.candidate_spin = 0;
     }
 }
 
 /// A step outside the promotion; gives the next point.
-fn walk(t: &mut Table, k: usize, point: u8) -> u8 {
+fn walk(words: &mut impl WordsMut, k: usize, p: &mut Port) -> u8 {
     let bit = 1u64 << k;
-    let own_bit_set = t.active & bit != 0;
-    let p = &mut t.ports[k];
-    match point {
+    let active = words.active();
+    let own_bit_set = active & bit != 0;
+    match p.point {
         1 => match p.status {
             status::CS => 11,
             status::EXIT => 13,
@@ -63,23 +62,17 @@ fn walk(t: &mut Table, k: usize, point: u8) -> u8 {
             p.go = p.made;
             p.own_spin = p.made;
             p.value = 0;
-            t.copies[k].spin = 0;
+            words.renew(Cell::Spin(k), |_| 0);
             5
         }
         5 if own_bit_set => 20,
         5 => 6,
         6 => {
-            t.active = t.active.wrapping_add(bit);
+            words.set_active(active.wrapping_add(bit));
             20
         }
-        8 => {
-            let spin = p.own_spin;
-            if t.latest(k, spin) && t.ports[k].value == 1 {
-                10
-            } else {
-                9
-            }
-        }
+        8 if p.latest(p.own_spin) && p.value == 1 => 10,
+        8 => 9,
         9 if p.flag == 1 => 12,
         9 => 8,
         10 => {
@@ -97,7 +90,7 @@ fn walk(t: &mut Table, k: usize, point: u8) -> u8 {
         14 if own_bit_set => 15,
         14 => 16,
         15 => {
-            t.active = t.active.wrapping_add(bit.wrapping_neg());
+            words.set_active(active.wrapping_add(bit.wrapping_neg()));
             16
         }
         16 => {
@@ -105,13 +98,14 @@ fn walk(t: &mut Table, k: usize, point: u8) -> u8 {
             30
         }
         17 => {
-            let held = Word {
+            let mut word = Word {
                 taken: 1,
                 owner: k as u8,
                 spin: p.own_spin,
             };
-            if t.word == held {
-                t.word.taken = 0;
+            if words.word() == word {
+                word.taken = 0;
+                words.set_word(word);
             }
             40
         }
@@ -124,15 +118,14 @@ fn walk(t: &mut Table, k: usize, point: u8) -> u8 {
             p.flag = 0;
             0
         }
-        _ => unreachable!("no step at point {point}"),
+        point => unreachable!("no step at point {point}"),
     }
 }
 
 /// A step of the promotion that starts at `tens`; gives the next point.
-fn promote(t: &mut Table, k: usize, tens: u8, units: u8) -> u8 {
-    let word = t.word;
-    let active = t.active;
-    let p = &mut t.ports[k];
+fn promote(words: &mut impl WordsMut, k: usize, p: &mut Port, tens: u8, units: u8) -> u8 {
+    let word = words.word();
+    let active = words.active();
     match units {
         0 => {
             p.seen_owner = word.owner;
@@ -153,8 +146,7 @@ fn promote(t: &mut Table, k: usize, tens: u8, units: u8) -> u8 {
         }
         1 => tens + 4,
         2 => {
-            let candidate = p.candidate as usize;
-            t.ports[k].candidate_spin = t.ports[candidate].go;
+            p.candidate_spin = words.port(p.candidate as usize).go;
             tens + 3
         }
         3 => {
@@ -164,11 +156,11 @@ fn promote(t: &mut Table, k: usize, tens: u8, units: u8) -> u8 {
                 spin: p.seen_spin,
             };
             if word == seen {
-                t.word = Word {
+                words.set_word(Word {
                     taken: 1,
                     owner: p.candidate,
                     spin: p.candidate_spin,
-                };
+                });
             }
             tens + 4
         }
@@ -179,11 +171,23 @@ fn promote(t: &mut Table, k: usize, tens: u8, units: u8) -> u8 {
         }
         4 => back(tens),
         _ => {
-            let (owner, spin) = (p.seen_owner as usize, p.seen_spin);
-            if t.latest(owner, spin) {
-                t.ports[owner].value = 1;
-            }
+            mark(words, k, p);
             back(tens)
         }
+    }
+}
+
+/// Sets the seen owner's seen spin to 1, if it is that port's latest; the seen owner may be port `k` itself, which is `p`.
+fn mark(words: &mut impl WordsMut, k: usize, p: &mut Port) {
+    let owner = p.seen_owner as usize;
+    let mut seen = words.port(owner);
+    if !seen.latest(p.seen_spin) {
+        return;
+    }
+    if owner == k {
+        p.value = 1;
+    } else {
+        seen.value = 1;
+        words.set_port(owner, seen);
     }
 }

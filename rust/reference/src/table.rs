@@ -1,7 +1,9 @@
 //! The table of one lock.
 
+use crate::words::{Cell, Words, WordsMut};
+
 /// The most ports that a table has room for.
-pub const ROOM: usize = 16;
+pub const ROOM: usize = 64;
 
 /// The lock word. Its spin belongs to its owner.
 #[derive(Clone, Copy, Debug, Default, PartialEq, Eq)]
@@ -39,6 +41,13 @@ pub struct Port {
     pub candidate: u8,
     /// Working value: candidate spin, one of the candidate's.
     pub candidate_spin: u16,
+}
+
+impl Port {
+    /// Whether `spin` is the port's latest, the only one with a stored value.
+    pub(crate) fn latest(&self, spin: u16) -> bool {
+        spin != 0 && spin == self.made
+    }
 }
 
 /// The sets of ports with a current copy of a port's words, bit k for port k.
@@ -85,8 +94,63 @@ impl Table {
         }
     }
 
-    /// Whether `spin` is the latest of `port`, the only one with a stored value.
-    pub(crate) fn latest(&self, port: usize, spin: u16) -> bool {
-        spin != 0 && spin == self.ports[port].made
+    /// The copy set of a word.
+    fn set_of(&mut self, cell: Cell) -> &mut u64 {
+        match cell {
+            Cell::Active => &mut self.active_copies,
+            Cell::Word => &mut self.word_copies,
+            Cell::Status(k) => &mut self.copies[k].status,
+            Cell::Go(k) => &mut self.copies[k].go,
+            Cell::Spin(k) => &mut self.copies[k].spin,
+        }
+    }
+}
+
+impl Words for Table {
+    fn d(&self) -> usize {
+        self.d as usize
+    }
+
+    fn active(&self) -> u64 {
+        self.active
+    }
+
+    fn word(&self) -> Word {
+        self.word
+    }
+
+    fn port(&self, k: usize) -> Port {
+        self.ports[k]
+    }
+
+    fn copies(&self, cell: Cell) -> u64 {
+        match cell {
+            Cell::Active => self.active_copies,
+            Cell::Word => self.word_copies,
+            Cell::Status(k) => self.copies[k].status,
+            Cell::Go(k) => self.copies[k].go,
+            Cell::Spin(k) => self.copies[k].spin,
+        }
+    }
+}
+
+impl WordsMut for Table {
+    fn set_active(&mut self, active: u64) {
+        self.active = active;
+    }
+
+    fn set_word(&mut self, word: Word) {
+        self.word = word;
+    }
+
+    fn set_port(&mut self, k: usize, port: Port) {
+        self.ports[k] = port;
+    }
+
+    fn renew(&mut self, cell: Cell, change: impl FnOnce(u64) -> u64) -> u64 {
+        let copies = self.set_of(cell);
+        let before = *copies;
+        *copies = change(before);
+        before
     }
 }

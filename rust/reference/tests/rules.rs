@@ -2,7 +2,7 @@
 
 use reference::number::*;
 use reference::order::*;
-use reference::{event, fresh, good, points, read, write, Table, LONGEST};
+use reference::{event, fresh, good, in_place, points, read, write, Table, LONGEST, ROOM};
 
 const D: usize = 5;
 
@@ -42,7 +42,7 @@ fn stays(point: u8, change: impl Fn(&mut Table)) -> bool {
 #[test]
 fn sizes() {
     for d in 0..=u8::MAX {
-        assert_eq!(good(&Table::first(d)), (1..=16).contains(&d));
+        assert_eq!(good(&Table::first(d)), (1..=64).contains(&d));
     }
 }
 
@@ -84,6 +84,26 @@ fn bits_at_d_or_above() {
             assert_eq!(stays(0, |t| t.copies[k].status = bit), fits);
             assert_eq!(stays(0, |t| t.copies[k].go = bit), fits);
             assert_eq!(stays(0, |t| t.copies[k].spin = bit), fits);
+        }
+    }
+}
+
+#[test]
+fn every_bit_has_its_port_at_64() {
+    for (d, last) in [(63, false), (64, true)] {
+        let (_, fresh) = fresh(d);
+        let sets: [fn(&mut Table) -> &mut u64; 4] = [
+            |t| &mut t.active,
+            |t| &mut t.active_copies,
+            |t| &mut t.word_copies,
+            |t| &mut t.copies[0].go,
+        ];
+        for set in sets {
+            let mut t = fresh;
+            *set(&mut t) = u64::MAX;
+            assert_eq!(good(&t), last);
+            *set(&mut t) = u64::MAX >> 1;
+            assert!(good(&t));
         }
     }
 }
@@ -156,7 +176,7 @@ fn room_above_d_is_0() {
         |t, k| t.copies[k].go = 1,
         |t, k| t.copies[k].spin = 1,
     ];
-    for k in D..16 {
+    for k in D..ROOM {
         for change in changes {
             assert!(!stays(0, |t| change(t, k)));
         }
@@ -335,29 +355,47 @@ fn a_failed_swap_takes_all_copies() {
     assert_eq!((t.word.taken, t.word_copies), (0, 0b100));
 }
 
+/// A good table of seventeen ports, the fewest of version 2.
+fn seventeen() -> Table {
+    let mut t = at(23);
+    t.d = 17;
+    t.active = 1 << 16;
+    t.word_copies = 1 << 16;
+    assert!(good(&t));
+    t
+}
+
 #[test]
 fn every_damaged_byte_of_an_image_is_noticed_or_read() {
-    let mut room = [0; LONGEST];
-    let (_, length) = write(&at(23), &mut room);
-    let image = &mut room[..length];
-    for place in 0..length {
-        let whole = image[place];
-        for byte in (0..=u8::MAX).filter(|byte| *byte != whole) {
-            image[place] = byte;
-            let (number, table) = read(image);
-            match number {
-                DONE => {
-                    let mut again = [0; LONGEST];
-                    assert_eq!(write(&table, &mut again), (DONE, length));
-                    assert_eq!(&again[..length], &*image);
-                }
-                BAD_TABLE | BAD_IMAGE => {
-                    assert_eq!(table, fresh(1).1);
-                    assert_eq!(number == BAD_IMAGE, place < 14);
-                }
-                _ => panic!("number {number}"),
+    for t in [at(23), seventeen()] {
+        let mut room = [0; LONGEST];
+        let (_, length) = write(&t, &mut room);
+        let image = &mut room[..length];
+        for place in 0..length {
+            let whole = image[place];
+            for byte in (0..=u8::MAX).filter(|byte| *byte != whole) {
+                image[place] = byte;
+                damaged(image, place);
             }
+            image[place] = whole;
         }
-        image[place] = whole;
+    }
+}
+
+/// An image with a damage at `place`: the reader notices it, or gives the table of which it is the image.
+fn damaged(image: &[u8], place: usize) {
+    let (number, table) = read(image);
+    assert_eq!(in_place::check(image), number);
+    match number {
+        DONE => {
+            let mut again = [0; LONGEST];
+            assert_eq!(write(&table, &mut again), (DONE, image.len()));
+            assert_eq!(&again[..image.len()], image);
+        }
+        BAD_TABLE | BAD_IMAGE => {
+            assert_eq!(table, fresh(1).1);
+            assert_eq!(number == BAD_IMAGE, place < 14);
+        }
+        _ => panic!("number {number}"),
     }
 }

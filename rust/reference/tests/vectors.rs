@@ -1,6 +1,6 @@
 //! The vectors of images and events that the program `vectors` runs too, and the schedules and examples, made by an independent implementation of document 01.
 
-use reference::{event, listing::listing, read, write, LONGEST};
+use reference::{event, in_place, listing::listing, packed, read, write, LONGEST};
 use std::fs;
 use std::path::PathBuf;
 
@@ -23,6 +23,15 @@ fn bytes(field: &str) -> Vec<u8> {
         .collect()
 }
 
+/// The last image of a line; `=` is the first one again.
+fn last(field: &str, first: &[u8]) -> Vec<u8> {
+    if field == "=" {
+        first.to_vec()
+    } else {
+        bytes(field)
+    }
+}
+
 /// The image of a good table.
 fn image(t: &reference::Table) -> Vec<u8> {
     let mut room = [0; LONGEST];
@@ -40,16 +49,23 @@ fn events() {
         let [before, port, order, number, cached, distributed, after] = fields[..] else {
             panic!("{line}");
         };
-        let (answer, mut table) = read(&bytes(before));
+        let before = bytes(before);
+        let after = last(after, &before);
+        let (answer, mut table) = read(&before);
         assert_eq!(answer, 0, "{line}");
-        let got = event(&mut table, port.parse().unwrap(), order.parse().unwrap());
+        let (port, order) = (port.parse().unwrap(), order.parse().unwrap());
+        let got = event(&mut table, port, order);
         let want = (number, cached, distributed);
         let shown = (got.0.to_string(), got.1.to_string(), got.2.to_string());
         assert_eq!((&*shown.0, &*shown.1, &*shown.2), want, "{line}");
-        assert_eq!(image(&table), bytes(after), "{line}");
+        assert_eq!(image(&table), after, "{line}");
+        let mut held = before;
+        let packed_in_place = in_place::event(&mut held, port, order);
+        assert_eq!(packed_in_place, packed(got), "{line}");
+        assert_eq!(held, after, "{line}");
         count += 1;
     }
-    assert!(count > 500, "only {count} vectors");
+    assert!(count > 300, "only {count} vectors");
 }
 
 #[test]
@@ -61,9 +77,11 @@ fn images() {
         let [before, number, after] = fields[..] else {
             panic!("{line}");
         };
-        let (answer, table) = read(&bytes(before));
+        let before = bytes(before);
+        let (answer, table) = read(&before);
         assert_eq!(answer.to_string(), number, "{line}");
-        assert_eq!(image(&table), bytes(after), "{line}");
+        assert_eq!(image(&table), last(after, &before), "{line}");
+        assert_eq!(in_place::check(&before), answer, "{line}");
         count += 1;
     }
     assert!(count > 200, "only {count} vectors");
@@ -81,7 +99,7 @@ fn schedules() {
             count += 1;
         }
     }
-    assert!(count >= 35, "only {count} schedules");
+    assert!(count >= 90, "only {count} schedules");
 }
 
 #[test]

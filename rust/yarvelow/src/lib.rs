@@ -1,8 +1,8 @@
-//! The lock engine of document 01 from Rust: the table of one lock with D ports, kept as an image in memory.
+//! The lock engine of document 01 from Rust: the table of one lock with D ports, up to 64, kept as an image in memory.
 //!
 //! The engine is proved; it comes as the archive `libcabi.a`, and the environment variable `YARVELOW_LIB` names the archive's directory when this crate is
 //! built. A [`Lock`] holds an image of a good table, in bytes of its own or in lent ones that outlive a restart. The
-//! functions [`fresh`], [`check`], [`event`] and [`run`] work on plain buffers.
+//! functions [`fresh`], [`check`], [`event`], [`event_into`] and [`run`] work on plain buffers.
 //!
 //! ```
 //! use yarvelow::{Event, Lock, Refusal};
@@ -35,19 +35,26 @@ pub use answer::{Answer, Costs, Refusal};
 pub use lock::{Image, Lock};
 
 /// The most ports that a table has.
-pub const PORTS: usize = 16;
+pub const PORTS: usize = 64;
 
 /// The length of the longest image.
 pub const LONGEST: usize = image_length(PORTS);
 
-/// The length of the image of a table of `d` ports.
+/// The length of the image of a table of `d` ports. Up to 16 ports it is of version 1, with copy sets of two bytes; above,
+/// of version 2, with copy sets of eight.
 ///
 /// ```
-/// assert_eq!(yarvelow::image_length(1), 52);
-/// assert_eq!(yarvelow::LONGEST, 382);
+/// use yarvelow::{image_length, LONGEST};
+///
+/// assert_eq!((image_length(1), image_length(16)), (52, 382));
+/// assert_eq!((image_length(17), LONGEST), (722, 2602));
 /// ```
 pub const fn image_length(d: usize) -> usize {
-    30 + 22 * d
+    if d <= 16 {
+        30 + 22 * d
+    } else {
+        42 + 40 * d
+    }
 }
 
 /// The byte of an image that says whether the lock word is taken (1) or free (0).
@@ -155,7 +162,7 @@ pub struct Order {
 ///
 /// let mut room = [0; LONGEST];
 /// assert_eq!(fresh(2, &mut room), Ok(74));
-/// assert_eq!(fresh(17, &mut room), Err(Refusal::BadSize));
+/// assert_eq!(fresh(65, &mut room), Err(Refusal::BadSize));
 /// assert_eq!(fresh(2, &mut room[..73]), Err(Refusal::ShortRoom));
 /// ```
 pub fn fresh(d: u64, room: &mut [u8]) -> Result<usize, Refusal> {
@@ -164,6 +171,7 @@ pub fn fresh(d: u64, room: &mut [u8]) -> Result<usize, Refusal> {
 }
 
 /// Looks whether bytes are an image of a good table, and so can be used; not whether they were changed since they were written.
+/// An image has exactly the length of its D, here and in all that follows.
 ///
 /// ```
 /// use yarvelow::{check, fresh, Refusal, LONGEST};
@@ -180,6 +188,11 @@ pub fn check(image: &[u8]) -> Result<(), Refusal> {
 /// Carries out an event on an image where it stands, after looking at the image.
 /// Refused, for the image first and then for the event, every byte stays.
 ///
+/// Done, it writes only the 16 bytes of the port's record, from its [`point_place`] on, and where the event is a step: from 6
+/// and 15 ACTIVE, 8 bytes at 14; from 17, 23, 33 and 43 the word, 4 bytes at [`TAKEN_PLACE`]; the copy set of the word that
+/// the step touches, and from 4 also that of the port's latest spin; and from 25, 35 and 45 the latest value of the seen
+/// owner, the byte at its [`point_place`] + 3.
+///
 /// ```
 /// use yarvelow::{event, fresh, Costs, Event, Refusal, LONGEST};
 ///
@@ -192,6 +205,41 @@ pub fn check(image: &[u8]) -> Result<(), Refusal> {
 /// ```
 pub fn event(image: &mut [u8], port: u64, event: Event) -> Result<Costs, Refusal> {
     Answer::packed(sys::event(image, port, event as u64)).result()
+}
+
+/// Carries out an event as [`event`] does, but only reads `image` and puts the image after the event at the start of `next`.
+/// Refused, for the image, then for the event, then as `ShortRoom`, every byte of `next` stays; done, those after the image.
+///
+/// With two images and a byte that says which one holds, a controller that is cut off never harms the one that holds:
+///
+/// ```
+/// use yarvelow::{event_into, fresh, image_length, Costs, Event, Refusal};
+///
+/// let mut images = [[0; image_length(2)]; 2];
+/// let mut holds = 0;
+/// fresh(2, &mut images[holds]).unwrap();
+/// for (event, answer) in [
+///     (Event::Step, Err(Refusal::Idle)),
+///     (Event::Enter, Ok(Costs::default())),
+///     (Event::Step, Ok(Costs { cached: 1, distributed: 0 })),
+/// ] {
+///     let [first, second] = &mut images;
+///     let (image, next) = if holds == 0 { (first, second) } else { (second, first) };
+///     let got = event_into(image, next, 1, event);
+///     if got.is_ok() {
+///         holds = 1 - holds;
+///     }
+///     assert_eq!(got, answer);
+/// }
+/// assert_eq!(event_into(&images[0], &mut [], 1, Event::Crash), Err(Refusal::ShortRoom));
+/// ```
+pub fn event_into(
+    image: &[u8],
+    next: &mut [u8],
+    port: u64,
+    event: Event,
+) -> Result<Costs, Refusal> {
+    Answer::packed(sys::event_into(image, next, port, event as u64)).result()
 }
 
 /// Carries out events one after the other on an image, with one look at it: much faster than as many calls of [`event`],

@@ -1,6 +1,8 @@
 //! A lock over an image, in bytes of its own or in lent ones.
 
-use crate::{check, event, fresh, image_length, run, Answer, Costs, Event, Order, Refusal};
+use crate::{
+    check, event, event_into, fresh, image_length, run, Answer, Costs, Event, Order, Refusal,
+};
 
 /// The bytes that a lock works on.
 #[derive(Debug)]
@@ -34,7 +36,7 @@ pub struct Lock<'a> {
 }
 
 impl Lock<'static> {
-    /// A fresh lock of `d` ports, 1 to 16, in bytes of its own.
+    /// A fresh lock of `d` ports, 1 to 64, in bytes of its own.
     ///
     /// ```
     /// use yarvelow::{Lock, Refusal};
@@ -95,6 +97,23 @@ impl<'a> Lock<'a> {
     /// ```
     pub fn event(&mut self, port: u64, order: Event) -> Result<Costs, Refusal> {
         event(self.image.bytes_mut(), port, order)
+    }
+
+    /// Carries out an event at a port and puts the image after it at the start of `next`; the lock's own image stays.
+    /// Refused, for the event and then as `ShortRoom`, every byte of `next` stays.
+    ///
+    /// ```
+    /// use yarvelow::{Event, Image, Lock};
+    ///
+    /// let lock = Lock::fresh(2).unwrap();
+    /// let mut next = vec![0; lock.image().len()];
+    /// lock.event_into(&mut next, 0, Event::Enter).unwrap();
+    /// assert_ne!(lock.image(), next);
+    /// let mut after = Lock::open(Image::Lent(&mut next)).unwrap();
+    /// after.event(0, Event::Step).unwrap();
+    /// ```
+    pub fn event_into(&self, next: &mut [u8], port: u64, order: Event) -> Result<Costs, Refusal> {
+        event_into(self.image.bytes(), next, port, order)
     }
 
     /// Carries out events one after the other, with one look at the table. `answers[i]` becomes the answer to `orders[i]`.

@@ -1,4 +1,4 @@
-//! The archive's four functions as they are, and over slices with the numbers as they come. `include/yarvelow.h` says what each does.
+//! The archive's functions as they are, and over slices with the numbers as they come. `include/yarvelow.h` says what each does.
 
 extern "C" {
     /// Writes the image of a fresh table: number + 256 * the image's length.
@@ -7,6 +7,15 @@ extern "C" {
     pub fn yarvelow_check(image: *const u8, length: usize) -> u64;
     /// Carries out an event: number + 256 * cached + 65536 * distributed.
     pub fn yarvelow_event(image: *mut u8, length: usize, port: u64, event: u64) -> u64;
+    /// The same with the image after the event at the start of `next`; `image` is only read.
+    pub fn yarvelow_event_into(
+        image: *const u8,
+        length: usize,
+        next: *mut u8,
+        next_length: usize,
+        port: u64,
+        event: u64,
+    ) -> u64;
     /// Carries out pairs of port and event, with one check: the reader's number.
     pub fn yarvelow_run(
         image: *mut u8,
@@ -18,7 +27,7 @@ extern "C" {
     ) -> u64;
 }
 
-// SAFETY of the four calls: pointers and lengths are those of slices that are lent for the call.
+// SAFETY of the calls: pointers and lengths are those of slices that are lent for the call.
 
 /// `yarvelow_fresh` over a slice.
 pub fn fresh(d: u64, room: &mut [u8]) -> u64 {
@@ -33,6 +42,20 @@ pub fn check(image: &[u8]) -> u64 {
 /// `yarvelow_event` over a slice.
 pub fn event(image: &mut [u8], port: u64, event: u64) -> u64 {
     unsafe { yarvelow_event(image.as_mut_ptr(), image.len(), port, event) }
+}
+
+/// `yarvelow_event_into` over slices.
+pub fn event_into(image: &[u8], next: &mut [u8], port: u64, event: u64) -> u64 {
+    unsafe {
+        yarvelow_event_into(
+            image.as_ptr(),
+            image.len(),
+            next.as_mut_ptr(),
+            next.len(),
+            port,
+            event,
+        )
+    }
 }
 
 /// `yarvelow_run` over slices.

@@ -1,7 +1,8 @@
 //! The wrapper's own promises: numbers, refusals that leave every byte, owned and lent images.
 
 use yarvelow::{
-    check, event, fresh, run, Answer, Costs, Event, Image, Lock, Order, Refusal, LONGEST,
+    check, event, event_into, fresh, image_length, run, Answer, Costs, Event, Image, Lock, Order,
+    Refusal, LONGEST, PORTS,
 };
 
 #[test]
@@ -19,7 +20,7 @@ fn numbers_and_names() {
 fn refusals_leave_every_byte() {
     let mut room = [0x5A; LONGEST];
     assert_eq!(fresh(0, &mut room), Err(Refusal::BadSize));
-    assert_eq!(fresh(17, &mut room), Err(Refusal::BadSize));
+    assert_eq!(fresh(65, &mut room), Err(Refusal::BadSize));
     assert_eq!(fresh(4, &mut room[..117]), Err(Refusal::ShortRoom));
     assert_eq!(fresh(1, &mut []), Err(Refusal::ShortRoom));
     assert_eq!(event(&mut room, 0, Event::Enter), Err(Refusal::BadImage));
@@ -36,6 +37,43 @@ fn refusals_leave_every_byte() {
     );
     assert_eq!(answers, [Answer::default()]);
     assert!(room.iter().all(|byte| *byte == 0x5A));
+}
+
+#[test]
+fn lengths_are_those_of_the_archive() {
+    let mut room = [0; LONGEST];
+    for d in 1..=PORTS {
+        assert_eq!(fresh(d as u64, &mut room), Ok(image_length(d)));
+        assert_eq!(room[..2], [if d <= 16 { 1 } else { 2 }, d as u8]);
+        assert_eq!(check(&room[..image_length(d)]), Ok(()));
+        assert_eq!(
+            Lock::fresh(d as u64).unwrap().image().len(),
+            image_length(d)
+        );
+    }
+}
+
+#[test]
+fn the_image_after_an_event_stands_in_the_other_room() {
+    for d in [2, 17, 64] {
+        let lock = Lock::fresh(d).unwrap();
+        let before = lock.image().to_vec();
+        let length = before.len();
+        let mut next = vec![0x5A; length + 3];
+        let refused = lock.event_into(&mut next, d, Event::Enter);
+        assert_eq!(refused, Err(Refusal::NoSuchPort));
+        let short = lock.event_into(&mut next[..length - 1], d - 1, Event::Enter);
+        assert_eq!(short, Err(Refusal::ShortRoom));
+        let cut = event_into(&before[1..], &mut next, d - 1, Event::Enter);
+        assert_eq!(cut, Err(Refusal::BadImage));
+        assert!(next.iter().all(|byte| *byte == 0x5A));
+        lock.event_into(&mut next, d - 1, Event::Enter).unwrap();
+        assert_eq!(lock.image(), before);
+        assert_eq!(next[length..], [0x5A; 3]);
+        let mut after = before;
+        event(&mut after, d - 1, Event::Enter).unwrap();
+        assert_eq!(next[..length], after);
+    }
 }
 
 #[test]

@@ -1,23 +1,23 @@
 use borrow.Author.Needs.{needs}
-use mathlib.Core.Path.{_≡_, _∙_, sym, ap}
+use mathlib.Core.Path.{_≡_, refl, sym, ap, _∙_}
 use mathlib.Core.Bool.{true}
 use Prim.Native.Nat.{_-_, _+_, _*_, _<_}
 use native.Mathlib.Omega.{arith}
 use lib.ListN.{length}
 use Rattle.model.specs.declared.Made.{Made}
 use Rattle.model.specs.declared.Outcome.{Outcome}
+use Rattle.model.specs.declared.Answer.the-variants.{Done}
 use Rattle.model.specs.Event.{numberOf}
 use Rattle.model.specs.Good.{good}
-use Rattle.model.specs.Run.{order, codeOf}
+use Rattle.model.specs.Run.{codeOf}
 use Rattle.model.specs.Laws.Fees.{event-cost}
-use Rattle.model.specs.Laws.Kept.{good-after, made-good, made-sized}
-use Rattle.model.specs.Laws.Paid.{paid-event}
-use Rattle.lock.specs.Turns.{Running, begins, turns, ends, pays, places}
+use Rattle.model.specs.Laws.Kept.{made-good, made-sized}
+use Rattle.lock.specs.Turns.{Running, places, begins, turned, run-ends}
 use Rattle.bench.proofs.bench_events.Statement.{statement}
 use Rattle.bench.proofs.bench_events.Tie as tie
 
 abbrev Inv-loop : tie.InvT-loop
-Inv-loop d orders answers₀ n answer table₀ i₀ answers table i = Running orders n table₀ answers₀ i table answers × (good table ≡ true)
+Inv-loop d orders answers₀ n answer table₀ i₀ answers table i = Running orders n table₀ answers₀ i table answers
 
 abbrev μ-loop : tie.MeasureT-loop
 μ-loop d orders answers₀ n answer table₀ i₀ answers table i = n - i
@@ -25,7 +25,7 @@ abbrev μ-loop : tie.MeasureT-loop
 -- a turn's order and its answer have their places
 module _ (c : tie.In-loop Inv-loop μ-loop) where
   turn-fits : (2 * c .before .loop .i + 1 < length (c .before .before .before .before .before .before .before .args .orders .now)) × (c .before .loop .i < length (c .before .before .before .before .before .before .before .args .answers .now))
-  turn-fits = places _ _ _ _ (c .before .before .before .before .least .ensures) (c .loop-test .taken)
+  turn-fits = places _ _ _ _ true (c .before .before .before .before .least .ensures) (c .loop-test .taken)
 
   orders-fit : length (c .before .before .before .before .before .before .before .args .orders .now) * 8 < 9223372036854775808
   orders-fit = c .before .before .before .before .before .before .before .good .1 .0 .1
@@ -36,7 +36,7 @@ module _ (c : tie.In-loop Inv-loop μ-loop) where
 loop-holds : tie.Need-loop-holds Inv-loop μ-loop
 loop-holds c =
     let e = c .before .fresh .ensures in
-    (begins _ _ _ _ (rw e (made-sized _)), rw e (made-good _))
+    begins _ _ _ _ (rw e (made-sized _)) (λ l. rw e (made-good _))
 
 mul-event : tie.Need-mul-event Inv-loop μ-loop
 mul-event c = omega (arith, turn-fits c, orders-fit c)
@@ -66,7 +66,7 @@ mul-answers : tie.Need-mul-answers Inv-loop μ-loop
 mul-answers c = omega (arith, turn-fits (c .before .before .before .before), answers-fit (c .before .before .before .before))
 
 slice-write-answers : tie.Need-slice-write-answers Inv-loop μ-loop
-slice-write-answers c = omega (arith, turn-fits (c .before .before .before .before) .1, c .before .before .before .before .before .loop .inv .0 .long)
+slice-write-answers c = omega (arith, turn-fits (c .before .before .before .before) .1, c .before .before .before .before .before .loop .inv .long)
 
 add-i : tie.Need-add-i Inv-loop μ-loop
 add-i c = omega (arith, turn-fits (c .before .before .before .before .before), answers-fit (c .before .before .before .before .before))
@@ -80,22 +80,17 @@ loop-again c =
     let k = c .before .before .before .before .before in
     let l = k .before .loop in
     let e = c .before .before .event .ensures in
-    let q = sym (paid-event (l .table) _ _ (l .inv .1)) in (
-      turns _ _ _ _ (l .i) (l .table) _ (l .answers) _ (k .loop-test .taken) (l .inv .0)
-          (ap (λ (o : Outcome). o .table) (e ∙ q))
-          (c .before .code .ensures ∙ ap codeOf (e ∙ q)),
-      rw e (good-after (l .table) (order _ _) (l .inv .0 .sized) (l .inv .1)),
-    )
+    turned _ _ _ _ (l .i) (l .table) _ (l .answers) _ (k .loop-test .taken) (l .inv) (ap (λ (o : Outcome). o .table) e) (c .before .code .ensures ∙ ap codeOf e)
 
 same-length : tie.Need-same-length Inv-loop μ-loop
-same-length c = c .before .before .loop .inv .0 .long
+same-length c = c .before .before .loop .inv .long
 
 returns : tie.Need-returns Inv-loop μ-loop
 returns c =
     let f = c .before .before .before .before .fresh .ensures in
-    let e = ends _ _ _ _ _ _ _ (c .before .loop-test .left) (c .before .before .loop .inv .0) in
-    let p = pays _ _ _ (rw f (made-sized _)) (rw f (made-good _)) _ _ (e .0) (e .1) in
-    (c .number .ensures ∙ ap (λ (m : Made). numberOf (m .answer)) f, rw (← f, ← (c .before .before .before .before .before .least .ensures)) (p .1))
+    let g : good (c .before .before .before .before .fresh .result .table) ≡ true = rw f (made-good _) in
+    let e = run-ends _ _ _ _ _ true (sym g) (c .before .before .before .before .before .least .ensures) _ _ _ Done refl (c .before .loop-test .left) (c .before .before .loop .inv) in
+    (c .number .ensures ∙ ap (λ (m : Made). numberOf (m .answer)) f, rw (← f) (e .1))
 
 pub bench-events-spec : {M : Type 1} → statement M
 bench-events-spec =

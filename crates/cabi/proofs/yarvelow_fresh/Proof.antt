@@ -1,50 +1,47 @@
 use borrow.Author.Needs.{needs}
-use mathlib.Core.Path.{_≡_, sym, ap, _∙_}
-use Prim.Native.Nat.{_<_}
+use mathlib.Core.Path.{_≡_, sym, _∙_}
+use mathlib.Core.Bool.{true}
 use native.Mathlib.Omega.{arith}
-use Rattle.model.specs.declared.Made.{Made}
-use Rattle.model.specs.Table.{room}
-use Rattle.model.specs.Event.{numberOf, fresh}
+use Rattle.model.specs.Good.{sizeGood}
+use borrow.Author.Tests.{not-true, not-false}
 use Rattle.lock.specs.Single.{number-small}
-use Rattle.image.specs.Laws.Promises.{Puts}
-use Rattle.cabi.specs.Laws.{fresh-refused, fresh-put, fresh-length}
+use Rattle.cabi.specs.Laws.Fresh.{fresh-refused, fresh-written, fresh-length}
 use Rattle.cabi.proofs.yarvelow_fresh.Statement.{statement}
 use Rattle.cabi.proofs.yarvelow_fresh.Tie as tie
 
--- the number that decides, of the table that is asked for
-decides : (c : tie.After-number) → c .number .result ≡ numberOf (fresh (c .before .before .before .args .d) .answer)
-decides c = c .number .ensures ∙ ap (λ (m : Made). numberOf (m .answer)) (c .before .fresh .ensures)
-
--- what was put is the fresh table
-module _ (c : tie.After-number2) where
-  puts : Puts (fresh (c .before .before .before .before .before .before .before .before .before .before .args .d) .table) (c .before .before .before .before .before .before .before .before .before .before .args .room .now) (c .before .before .before .put .result) (c .before .before .before .put .last .1 .0)
-  puts = rw (← (c .before .before .before .before .before .before .before .before .fresh .ensures)) (c .before .before .before .put .ensures)
-
-  small : c .before .before .before .put .result .length < 383
-  unfolding room
-  small = omega (arith, fresh-length _ (c .before .before .before .before .before .before .before .before .before .before .args .room .now) _ _ puts)
-
 returns : tie.Need-returns
 returns c =
-    let e = decides (c .before) in
-    rw e (fresh-refused _ _ (λ z. c .if1 .taken (e ∙ z)))
+    let s = c .before .before .before in
+    fresh-refused (s .args .d) (s .args .room .now) (sym (c .before .size-good .ensures) ∙ not-true (c .before .size-good .result) (c .if1 .taken))
+
+sized : (c : tie.After-blank) → sizeGood (c .before .before .before .before .before .args .d) ≡ true
+sized c = sym (c .before .before .before .size-good .ensures) ∙ not-false (c .before .before .before .size-good .result) (c .before .before .if1 .left)
 
 mul-result : tie.Need-mul-result
-mul-result c = omega (arith, small c)
+mul-result c =
+    let b = c .before .before .before in
+    let s = b .before .before .before .before .before in
+    record { fits = omega (arith, fresh-length (s .args .d) (s .args .room .now) (sized b) (b .blank .result) (b .blank .ensures .0)) }
 
 add-result : tie.Need-add-result
-add-result c = omega (arith, small c, c .number2 .ensures, number-small (c .before .before .before .put .result .answer))
+add-result c =
+    let b = c .before .before .before in
+    let s = b .before .before .before .before .before in
+    record {
+      fits = omega (arith, fresh-length (s .args .d) (s .args .room .now) (sized b) (b .blank .result) (b .blank .ensures .0), c .number .ensures, number-small (b .blank .result .answer));
+    }
 
 returns-2 : tie.Need-returns-2
 returns-2 c =
-    let e = decides (c .before .before .before .before .before .before .before) in
-    rw (c .number2 .ensures) (fresh-put _ _ (sym e ∙ c .before .before .before .before .before .before .if1 .left) _ _ (puts c))
+    let b = c .before .before .before in
+    let g = b .before .before .before in
+    let s = g .before .before in
+    rw (c .number .ensures) (fresh-written (s .args .d) (s .args .room .now) (sized b) (b .blank .result) _ (b .blank .ensures .0) (b .blank .ensures .1))
 
 pub yarvelow-fresh-spec : {M : Type 1} → statement M
 yarvelow-fresh-spec =
     tie.close
     (tie.spec
-    (λ c κs. search needs)
     (λ c κs. search needs)
     returns
     (λ c κs. search needs)

@@ -1,24 +1,18 @@
 use borrow.Author.Needs.{needs}
-use Rattle.model.specs.Parts.Charges.{charge}
+use Prim.Native.Nat.{_%_}
+use Rattle.costs.specs.Single.{charge-fee}
 use Rattle.costs.proofs.charge.Statement.{statement}
 use Rattle.costs.proofs.charge.Tie as tie
 
 returns : tie.Need-returns
-unfolding charge
-returns c = rw (← (c .before .old .ensures), c .if1 .taken, c .before .before .distributed .ensures)
-
-returns-2 : tie.Need-returns-2
-unfolding charge
-returns-2 c =
+returns c =
+    let s = c .before .before .before .before in
     rw (
-      ← (c .before .before .before .before .before .before .old .ensures),
-      c .before .before .before .before .before .if1 .left,
-      c .before .before .put-shared .ensures,
-      c .before .put-copies .ensures,
-      c .cached .ensures,
-      c .before .before .before .copied .ensures,
-      c .before .before .before .before .holders .ensures,
-      c .before .before .before .before .before .before .before .distributed .ensures,
+      c .put-copies .ensures,
+      c .before .put-shared .ensures,
+      c .before .before .fee .ensures,
+      c .before .before .before .holders .ensures,
+      charge-fee (s .args .u) (s .args .k % 64) (s .args .w) (s .args .q) (s .args .s) (s .args .c),
     )
 
 pub charge-spec : {M : Type 1} → statement M
@@ -27,10 +21,6 @@ charge-spec =
     (tie.spec
     (λ c κs. search needs)
     (λ c κs. search needs)
-    returns
     (λ c κs. search needs)
     (λ c κs. search needs)
-    (λ c κs. search needs)
-    (λ c κs. search needs)
-    (λ c κs. search needs)
-    returns-2)
+    returns)

@@ -11,12 +11,12 @@ use lib.ListN.{length, take, drop, replicate, length-map, length-drop, take-appe
 use lib.Seq.{take-at, take-all, drop-drop}
 use Rattle.model.specs.Table.{room, noPort, noCopies}
 use Rattle.layout.specs.Bytes.{Bytes, sum, pack, unpack, unpacks}
-use Rattle.layout.specs.Layout.{sharedWidths, portWidths, copiedWidths, copiesWidths, headWidths, sharedValues, portValues, copiedValues, copiesValues, headValues, sharedOf, portOf, copiesOf, portPlace, copiesPlace, size}
+use Rattle.layout.specs.Layout.{sharedWidths, portWidths, copiedWidths, copiesWidths, headWidths, sharedValues, portValues, copiedValues, copiesValues, headValues, sharedOf, portOf, copiesOf, portPlace, copiesPlace, size, dIn, isImage}
 use Rattle.layout.specs.Laws.Digits.{bytes-drop}
 use Rattle.layout.specs.Laws.Records.{packs, pack-unpack, packs-unpacks, length-unpack, length-unpacks}
-use Rattle.image.specs.Image.{encode, dIn, isImage, held}
-use Rattle.image.specs.Laws.Rows.{same}
-use Rattle.image.specs.Laws.Reading.{image-tests}
+use Rattle.records.specs.Laws.Rows.{same}
+use Rattle.records.specs.Laws.Head.{image-tests}
+use Rattle.image.specs.Image.{encode, held}
 
 -- two lists that are the same are equal
 same-equal : (a b : List ℕ) → length a ≡ length b → same a b ≡ true → a ≡ b
@@ -58,10 +58,10 @@ module _ (bs : List ℕ) (f : Bytes bs) (e : isImage bs ≡ true) where
   shared-again =
       pack-unpack sharedWidths (drop (sum headWidths) bs) (bytes-drop (sum headWidths) bs f) (rw (length-drop (sum headWidths) bs) (omega (arith, long)))
 
-  copied-again : pack copiedWidths (copiedValues (held (dIn bs) bs .shared)) ≡ take (sum copiedWidths) (drop (portPlace (dIn bs)) bs)
+  copied-again : pack (copiedWidths (dIn bs)) (copiedValues (held (dIn bs) bs .shared)) ≡ take (sum (copiedWidths (dIn bs))) (drop (portPlace (dIn bs)) bs)
   unfolding held sharedOf copiedValues unpack copiedWidths portPlace size copiesPlace sum
   copied-again =
-      pack-unpack copiedWidths (drop (portPlace (dIn bs)) bs) (bytes-drop (portPlace (dIn bs)) bs f) (rw (length-drop (portPlace (dIn bs)) bs) (omega (arith, long)))
+      pack-unpack (copiedWidths (dIn bs)) (drop (portPlace (dIn bs)) bs) (bytes-drop (portPlace (dIn bs)) bs f) (rw (length-drop (portPlace (dIn bs)) bs) (omega (arith, long)))
 
   ports-again : packs portWidths (map portValues (take (dIn bs) (held (dIn bs) bs .ports))) ≡ take (dIn bs * sum portWidths) (drop (portPlace 0) bs)
   unfolding held portOf portValues unpack portWidths portPlace size copiesPlace sum
@@ -69,24 +69,24 @@ module _ (bs : List ℕ) (f : Bytes bs) (e : isImage bs ≡ true) where
       rw (first-records portOf noPort portWidths (dIn bs) (room - dIn bs) (drop (portPlace 0) bs), forth portValues portOf portWidths (λ b. refl) (dIn bs) (drop (portPlace 0) bs))
       (packs-unpacks portWidths (dIn bs) (drop (portPlace 0) bs) (bytes-drop (portPlace 0) bs f) (rw (length-drop (portPlace 0) bs) (omega (arith, long))))
 
-  copies-again : packs copiesWidths (map copiesValues (take (dIn bs) (held (dIn bs) bs .copies))) ≡ take (dIn bs * sum copiesWidths) (drop (copiesPlace (dIn bs) 0) bs)
+  copies-again : packs (copiesWidths (dIn bs)) (map copiesValues (take (dIn bs) (held (dIn bs) bs .copies))) ≡ take (dIn bs * sum (copiesWidths (dIn bs))) (drop (copiesPlace (dIn bs) 0) bs)
   unfolding held copiesOf copiesValues unpack copiesWidths portPlace copiesPlace size sum
   copies-again =
-      rw (first-records copiesOf noCopies copiesWidths (dIn bs) (room - dIn bs) (drop (copiesPlace (dIn bs) 0) bs), forth copiesValues copiesOf copiesWidths (λ b. refl) (dIn bs) (drop (copiesPlace (dIn bs) 0) bs))
-      (packs-unpacks copiesWidths (dIn bs) (drop (copiesPlace (dIn bs) 0) bs) (bytes-drop (copiesPlace (dIn bs) 0) bs f) (rw (length-drop (copiesPlace (dIn bs) 0) bs) (omega (arith, long))))
+      rw (first-records copiesOf noCopies (copiesWidths (dIn bs)) (dIn bs) (room - dIn bs) (drop (copiesPlace (dIn bs) 0) bs), forth copiesValues copiesOf (copiesWidths (dIn bs)) (λ b. refl) (dIn bs) (drop (copiesPlace (dIn bs) 0) bs))
+      (packs-unpacks (copiesWidths (dIn bs)) (dIn bs) (drop (copiesPlace (dIn bs) 0) bs) (bytes-drop (copiesPlace (dIn bs) 0) bs f) (rw (length-drop (copiesPlace (dIn bs) 0) bs) (omega (arith, long))))
 
   d-again : held (dIn bs) bs .shared .d ≡ dIn bs
   unfolding held sharedOf
   d-again = refl
 
   -- the pieces follow one another without gaps, and the last ends the image
-  last : take (dIn bs * sum copiesWidths) (drop (copiesPlace (dIn bs) 0) bs) ≡ drop (copiesPlace (dIn bs) 0) bs
+  last : take (dIn bs * sum (copiesWidths (dIn bs))) (drop (copiesPlace (dIn bs) 0) bs) ≡ drop (copiesPlace (dIn bs) 0) bs
   unfolding portPlace copiesPlace size sum sharedWidths portWidths copiedWidths copiesWidths headWidths
-  last = take-all (dIn bs * sum copiesWidths) (drop (copiesPlace (dIn bs) 0) bs) (rw (length-drop (copiesPlace (dIn bs) 0) bs) (omega (arith, long)))
+  last = take-all (dIn bs * sum (copiesWidths (dIn bs))) (drop (copiesPlace (dIn bs) 0) bs) (rw (length-drop (copiesPlace (dIn bs) 0) bs) (omega (arith, long)))
 
-  copies-next : portPlace (dIn bs) + sum copiedWidths ≡ copiesPlace (dIn bs) 0
+  copies-next : portPlace (dIn bs) + sum (copiedWidths (dIn bs)) ≡ copiesPlace (dIn bs) 0
   unfolding copiesPlace
-  copies-next = rw (zero-mul (sum copiesWidths)) (omega arith)
+  copies-next = rw (zero-mul (sum (copiesWidths (dIn bs)))) (omega arith)
 
   copied-next : portPlace 0 + dIn bs * sum portWidths ≡ portPlace (dIn bs)
   unfolding portPlace
@@ -108,7 +108,7 @@ module _ (bs : List ℕ) (f : Bytes bs) (e : isImage bs ≡ true) where
         copied-again,
         copies-again,
         last,
-        piece bs (portPlace d) (sum copiedWidths) (copiesPlace d 0) copies-next,
+        piece bs (portPlace d) (sum (copiedWidths (dIn bs))) (copiesPlace d 0) copies-next,
         piece bs (portPlace 0) (d * sum portWidths) (portPlace d) copied-next,
         piece bs (sum headWidths) (sum sharedWidths) (portPlace 0) ports-next,
       )

@@ -2,25 +2,26 @@
 use mathlib.Core.Path.{_≡_, refl, sym, ap, _∙_}
 use mathlib.Core.Bool.{true}
 use mathlib.Core.List.{List, [], _∷_, _++_, map, zipWith, append-nil}
-use Prim.Native.Nat.{ℕ, _+_, _-_, _*_, _≤_, _<_}
+use Prim.Native.Nat.{ℕ, _+_, _-_, _*_, _≤_}
 use native.Mathlib.Nat.{zero-mul, add-zero}
 use native.Mathlib.Omega.{arith}
 use borrow.Author.Tests.{eq-eqb, le-leb}
-use lib.ListN.{length, getD, take, drop, replicate, length-map, length-drop, length-replicate, getD-replicate, take-append-drop}
-use lib.Seq.{drop-append-add, drop-drop, drop-at, getD-drop, getD-take, length-take-le, ext-getD}
+use lib.ListN.{length, take, drop, replicate, length-map}
+use lib.Seq.{drop-append-add, drop-drop, drop-at, getD-take, length-take-le}
 use Rattle.model.specs.declared.Table.{Table}
 use Rattle.model.specs.declared.Answer.the-variants.{Done}
 use Rattle.model.specs.Table.{room, Sized, noPort, noCopies}
 use Rattle.model.specs.Good.{sizeGood, good}
 use Rattle.model.specs.Laws.Rules.{shared-rules}
 use Rattle.layout.specs.Bytes.{sum, pack, unpack, unpacks}
-use Rattle.layout.specs.Layout.{sharedWidths, portWidths, copiedWidths, copiesWidths, headWidths, sharedValues, portValues, copiedValues, copiesValues, headValues, sharedOf, portOf, copiesOf, portPlace, copiesPlace, size}
+use Rattle.layout.specs.Layout.{sharedWidths, portWidths, copiedWidths, copiesWidths, headWidths, sharedValues, portValues, copiedValues, copiesValues, headValues, sharedOf, portOf, copiesOf, portPlace, copiesPlace, size, dIn, isImage}
 use Rattle.layout.specs.Laws.Records.{packs, AllFit, length-pack, unpack-pack, unpacks-packs}
-use Rattle.image.specs.Image.{encode, dIn, isImage, held, opened, decode}
-use Rattle.image.specs.Laws.Rows.{same}
-use Rattle.image.specs.Laws.Reading.{tables}
-use Rattle.image.specs.Laws.Writing.{length-encode, rows-long}
-use Rattle.image.specs.Laws.Fits.{head-fits, shared-fits, copied-fits, port-fits, copies-fits, all-fit, empty-above}
+use Rattle.records.specs.Laws.Rows.{same}
+use Rattle.image.specs.Image.{encode, held, decode}
+use Rattle.image.specs.Laws.Whole.{tables, refill}
+use Rattle.image.specs.Laws.Encoded.{length-encode, rows-long}
+use Rattle.image.specs.Laws.Fits.{head-fits, shared-fits, copied-fits, port-fits, copies-fits, all-fit}
+use Rattle.image.specs.Laws.Empty.{empty-above}
 
 -- a list is the same as itself
 same-refl : (l : List ℕ) → same l l ≡ true
@@ -31,19 +32,6 @@ same-refl (x ∷ l) = rw (eq-eqb x x refl, same-refl l)
 -- past the start of a list
 past : (xs ys : List ℕ) (n m : ℕ) → length xs ≡ n → drop (n + m) (xs ++ ys) ≡ drop m ys
 past xs ys n m e = rw (← e) (drop-append-add xs ys m)
-
--- a list whose elements from d on are z
-refill : {A : Type 0} (z : A) (l : List A) (d : ℕ) → length l ≡ room → ((k : ℕ) → d ≤ k → k < room → getD l k z ≡ z)
-    → take d l ++ replicate (room - d) z ≡ l
-refill z l d e h =
-    let n : length (drop d l) ≡ room - d = length-drop d l ∙ ap (λ (m : ℕ). m - d) e in
-    let r : drop d l ≡ replicate (room - d) z =
-    ext-getD z (drop d l) (replicate (room - d) z) (n ∙ sym (length-replicate (room - d) z))
-    (λ i q.
-    getD-drop d l i z
-    ∙ h (d + i) (omega arith) (omega (arith, q, n))
-    ∙ sym (getD-replicate (room - d) i z z (omega (arith, q, n)))) in
-    rw (← r) (take-append-drop d l)
 
 -- records of one kind, there and back
 module _ {A : Type 0} (f : A → List ℕ) (of : List ℕ → A) (ws : List ℕ) where
@@ -61,7 +49,7 @@ module _ {A : Type 0} (f : A → List ℕ) (of : List ℕ → A) (ws : List ℕ)
 
 -- the parts of an image after the head
 abbrev afterPorts : Table → List ℕ
-afterPorts t = pack copiedWidths (copiedValues (t .shared)) ++ packs copiesWidths (map copiesValues (take (t .shared .d) (t .copies)))
+afterPorts t = pack (copiedWidths (t .shared .d)) (copiedValues (t .shared)) ++ packs (copiesWidths (t .shared .d)) (map copiesValues (take (t .shared .d) (t .copies)))
 
 abbrev afterShared : Table → List ℕ
 afterShared t = packs portWidths (map portValues (take (t .shared .d) (t .ports))) ++ afterPorts t
@@ -91,18 +79,18 @@ module _ (t : Table) where
     at-copied =
         at-port (t .shared .d)
         ∙ drop-at (packs portWidths (map portValues (take (t .shared .d) (t .ports)))) (afterPorts t) (t .shared .d * sum portWidths)
-        (rows-long portValues noPort portWidths (t .ports) (t .shared .d) (omega (arith, s .ports, h)))
+        (rows-long portValues portWidths (t .ports) (t .shared .d) (omega (arith, s .ports, h)))
 
-    at-copies : drop (copiesPlace (t .shared .d) 0) (encode t) ≡ packs copiesWidths (map copiesValues (take (t .shared .d) (t .copies)))
+    at-copies : drop (copiesPlace (t .shared .d) 0) (encode t) ≡ packs (copiesWidths (t .shared .d)) (map copiesValues (take (t .shared .d) (t .copies)))
     unfolding copiesPlace
     at-copies =
         let d = t .shared .d in
-        let e : portPlace d + sum copiedWidths + 0 * sum copiesWidths ≡ portPlace d + sum copiedWidths = rw (zero-mul (sum copiesWidths), add-zero (portPlace d + sum copiedWidths)) in
+        let e : portPlace d + sum (copiedWidths (t .shared .d)) + 0 * sum (copiesWidths (t .shared .d)) ≡ portPlace d + sum (copiedWidths (t .shared .d)) = rw (zero-mul (sum (copiesWidths (t .shared .d))), add-zero (portPlace d + sum (copiedWidths (t .shared .d)))) in
         rw e
-        (sym (drop-drop (sum copiedWidths) (portPlace d) (encode t))
-        ∙ ap (drop (sum copiedWidths)) at-copied
-        ∙ drop-at (pack copiedWidths (copiedValues (t .shared))) (packs copiesWidths (map copiesValues (take d (t .copies)))) (sum copiedWidths)
-        (length-pack copiedWidths (copiedValues (t .shared))))
+        (sym (drop-drop (sum (copiedWidths (t .shared .d))) (portPlace d) (encode t))
+        ∙ ap (drop (sum (copiedWidths (t .shared .d)))) at-copied
+        ∙ drop-at (pack (copiedWidths (t .shared .d)) (copiedValues (t .shared))) (packs (copiesWidths (t .shared .d)) (map copiesValues (take d (t .copies)))) (sum (copiedWidths (t .shared .d)))
+        (length-pack (copiedWidths (t .shared .d)) (copiedValues (t .shared))))
 
   module _ (s : Sized t) (g : good t ≡ true) where
     fits : t .shared .d ≤ room
@@ -112,11 +100,11 @@ module _ (t : Table) where
     unfolding encode
     head-back = unpack-pack headWidths (headValues (t .shared .d)) _ (head-fits (t .shared .d) fits)
 
-    d-back : dIn (encode t) ≡ t .shared .d
+    pub d-back : dIn (encode t) ≡ t .shared .d
     unfolding dIn headValues
     d-back = rw head-back
 
-    image-back : isImage (encode t) ≡ true
+    pub image-back : isImage (encode t) ≡ true
     unfolding isImage sizeGood
     image-back =
         rw (
@@ -128,14 +116,14 @@ module _ (t : Table) where
           same-refl (headValues (t .shared .d)),
         )
 
-    shared-back : sharedOf (t .shared .d) (unpack sharedWidths (drop (sum headWidths) (encode t))) (unpack copiedWidths (drop (portPlace (t .shared .d)) (encode t))) ≡ t .shared
+    shared-back : sharedOf (t .shared .d) (unpack sharedWidths (drop (sum headWidths) (encode t))) (unpack (copiedWidths (t .shared .d)) (drop (portPlace (t .shared .d)) (encode t))) ≡ t .shared
     unfolding sharedOf sharedValues copiedValues
     shared-back =
         rw (
           at-shared,
           at-copied s fits,
           unpack-pack sharedWidths (sharedValues (t .shared)) (afterShared t) (shared-fits t g),
-          unpack-pack copiedWidths (copiedValues (t .shared)) _ (copied-fits t g),
+          unpack-pack (copiedWidths (t .shared .d)) (copiedValues (t .shared)) _ (copied-fits t g),
         )
 
     ports-back : map portOf (unpacks portWidths (t .shared .d) (drop (portPlace 0) (encode t))) ++ replicate (room - t .shared .d) noPort ≡ t .ports
@@ -151,24 +139,24 @@ module _ (t : Table) where
         )
         (refill noPort (t .ports) d (s .ports) (λ k a b. empty-above t g k a b .0))
 
-    copies-back : map copiesOf (unpacks copiesWidths (t .shared .d) (drop (copiesPlace (t .shared .d) 0) (encode t))) ++ replicate (room - t .shared .d) noCopies ≡ t .copies
+    copies-back : map copiesOf (unpacks (copiesWidths (t .shared .d)) (t .shared .d) (drop (copiesPlace (t .shared .d) 0) (encode t))) ++ replicate (room - t .shared .d) noCopies ≡ t .copies
     unfolding copiesOf copiesValues
     copies-back =
         let d = t .shared .d in
         let l : length (take d (t .copies)) ≡ d = length-take-le d (t .copies) (omega (arith, s .copies, fits)) in
         rw (
           at-copies s fits,
-          ← (append-nil (packs copiesWidths (map copiesValues (take d (t .copies))))),
-          back copiesValues copiesOf copiesWidths (λ c. refl) (take d (t .copies)) d l
-              (all-fit copiesValues noCopies copiesWidths (take d (t .copies)) (λ k q. rw (getD-take d (t .copies) k noCopies (omega (arith, q, l))) (copies-fits t g k (omega (arith, q, l)))))
+          ← (append-nil (packs (copiesWidths (t .shared .d)) (map copiesValues (take d (t .copies))))),
+          back copiesValues copiesOf (copiesWidths (t .shared .d)) (λ c. refl) (take d (t .copies)) d l
+              (all-fit copiesValues noCopies (copiesWidths (t .shared .d)) (take d (t .copies)) (λ k q. rw (getD-take d (t .copies) k noCopies (omega (arith, q, l))) (copies-fits t g k (omega (arith, q, l)))))
               [],
         )
         (refill noCopies (t .copies) d (s .copies) (λ k a b. empty-above t g k a b .1))
 
-    held-back : held (t .shared .d) (encode t) ≡ t
+    pub held-back : held (t .shared .d) (encode t) ≡ t
     unfolding held
     held-back = tables _ (t .ports) _ (t .copies) _ (t .shared) ports-back copies-back shared-back
 
     pub decode-encode : decode (encode t) ≡ record { table = t; answer = Done }
-    unfolding opened decode
+    unfolding decode
     decode-encode = rw (image-back, d-back, held-back, g)

@@ -1,132 +1,137 @@
--- Writing as the code does it: record by record, what is still to write gives the whole image.
+-- Writing as the code does it: record by record, what is still to be written gives the whole image.
 use mathlib.Core.Path.{_≡_, refl, sym, ap, _∙_}
-use mathlib.Core.List.{List, [], _++_, map, flatMap, append-assoc}
-use Prim.Native.Nat.{ℕ, suc, _+_, _*_, _≤_, _<_}
+use mathlib.Core.Bool.{true, false}
+use mathlib.Core.List.{List, [], _++_, map, flatMap, append-assoc, append-nil}
+use Prim.Native.Nat.{ℕ, suc, _+_, _≤_, _<_}
+use native.Mathlib.Nat.{zero-mul, suc-mul}
 use native.Mathlib.Numerals.{add-one}
 use native.Mathlib.Omega.{arith}
-use borrow.Author.Tests.{lt-ltb, le-ltb}
-use lib.ListN.{length, getD, take, drop, length-map, length-append, drop-of-length-le}
+use borrow.Author.Tests.{lt-ltb, le-ltb, le-leb}
+use lib.ListN.{length, getD, take, drop, length-append, drop-of-length-le}
 use lib.Seq.{sets, length-sets, drop-cons, getD-take, length-take-le}
 use Rattle.model.specs.declared.Table.{Table}
 use Rattle.model.specs.declared.Answer.the-variants.{Done, BadTable, ShortRoom}
-use Rattle.model.specs.Table.{room, Sized, noPort, noCopies}
+use Rattle.model.specs.Table.{room, Sized, noPort, noCopies, portAt, copiesAt}
+use Rattle.model.specs.Good.{sizeGood, good}
+use Rattle.model.specs.Parts.Rules.{portsOf}
+use Rattle.model.specs.Laws.Rules.{shared-rules}
 use Rattle.layout.specs.Bytes.{sum, pack}
 use Rattle.layout.specs.Layout.{sharedWidths, portWidths, copiedWidths, copiesWidths, headWidths, sharedValues, portValues, copiedValues, copiesValues, headValues, portPlace, copiesPlace, size}
-use Rattle.layout.specs.Laws.Records.{packs, length-pack, length-packs}
-use Rattle.image.specs.Image.{encode, putAnswer}
-use Rattle.image.specs.Laws.Rows.{sets-append}
+use Rattle.layout.specs.Laws.Records.{packs, length-pack}
+use Rattle.records.specs.Records.{putAt}
+use Rattle.records.specs.Laws.Rows.{sets-append}
+use Rattle.records.specs.Laws.There.{put-inside}
+use Rattle.image.specs.Image.{encode, writeAnswer}
+use Rattle.image.specs.Laws.Encoded.{length-encode}
 
--- what is stored keeps the length
-pub stored-long : (l next : List ℕ) (at : ℕ) (xs : List ℕ) → next ≡ sets l at xs → length next ≡ length l
-stored-long l next at xs e = ap length e ∙ length-sets l at xs
+-- of the bytes `all` to be written to the start of a room, `rest` is still to be written, from `at` on
+pub record Writing (out all now : List ℕ) (at : ℕ) (rest : List ℕ) : Type 0 where
+  pub fits : length all ≤ length out
+  pub long : length now ≡ length out
+  pub place : at + length rest ≡ length all
+  pub text : sets now at rest ≡ sets out 0 all
 
--- two records at the start of a room
-pub two-records : (room₀ one two : List ℕ) (a : ℕ) (xs ys : List ℕ) → one ≡ sets room₀ 0 xs → a ≡ length xs → two ≡ sets one a ys
-    → two ≡ sets room₀ 0 (xs ++ ys)
-two-records room₀ one two a xs ys e p q =
-    let z : 0 + length xs ≡ length xs = omega arith in
-    rw (q, e, p) (rw z at (sym (sets-append room₀ 0 xs ys)))
-
--- of the bytes `all` to be written from `at₀` on, `rest` is still to be written from `at` on
-pub record Writing (room₀ : List ℕ) (at₀ : ℕ) (all now : List ℕ) (at : ℕ) (rest : List ℕ) : Type 0 where
-  pub long : length now ≡ length room₀
-  pub place : at + length rest ≡ at₀ + length all
-  pub text : sets now at rest ≡ sets room₀ at₀ all
-
-pub write-start : (room₀ : List ℕ) (at₀ : ℕ) (all : List ℕ) → Writing room₀ at₀ all room₀ at₀ all
-write-start room₀ at₀ all = record { long = refl; place = refl; text = refl }
-
-pub wrote : (room₀ : List ℕ) (at₀ : ℕ) (all now next : List ℕ) (at to : ℕ) (xs rest : List ℕ) → Writing room₀ at₀ all now at (xs ++ rest)
-    → next ≡ sets now at xs → to ≡ at + length xs → Writing room₀ at₀ all next to rest
-wrote room₀ at₀ all now next at to xs rest w e p =
+-- one record put
+put-next : (out all now next : List ℕ) (at to : ℕ) (ws vs rest : List ℕ) → to ≡ at + sum ws
+    → Writing out all now at (pack ws vs ++ rest) → next ≡ putAt ws vs at now → Writing out all next to rest
+put-next out all now next at to ws vs rest p w e =
+    let l = length-append (pack ws vs) rest in
+    let n = length-pack ws vs in
+    let s : next ≡ sets now at (pack ws vs) = e ∙ put-inside ws vs at now (omega (arith, w .fits, w .long, w .place, l, n)) in
+    let t : to ≡ at + length (pack ws vs) = omega (arith, p, n) in
     record {
-      long = stored-long now next at xs e ∙ w .long;
-      place = omega (arith, w .place, length-append xs rest, p);
-      text = rw (e, p) (sym (sets-append now at xs rest) ∙ w .text);
+      fits = w .fits;
+      long = ap length s ∙ length-sets now at (pack ws vs) ∙ w .long;
+      place = omega (arith, w .place, l, t);
+      text = rw (s, t) (sym (sets-append now at (pack ws vs) rest) ∙ w .text);
     }
 
--- one writing after another
-pub then : (room₀ : List ℕ) (at₀ : ℕ) (all mid : List ℕ) (to : ℕ) (some now : List ℕ) (at : ℕ) (rest : List ℕ) → Writing room₀ at₀ all mid to some
-    → Writing mid to some now at rest → Writing room₀ at₀ all now at rest
-then room₀ at₀ all mid to some now at rest v w = record { long = w .long ∙ v .long; place = w .place ∙ v .place; text = w .text ∙ v .text }
+-- the records of the first n of a list, from i on
+abbrev rows : {A : Type 0} → (A → List ℕ) → List ℕ → List A → ℕ → ℕ → List ℕ
+rows f ws l n i = packs ws (map f (drop i (take n l)))
 
--- a record that is still to be written has its place
-pub record-fits : (room₀ : List ℕ) (at₀ : ℕ) (all now : List ℕ) (at : ℕ) (ws vs rest : List ℕ) → Writing room₀ at₀ all now at (pack ws vs ++ rest)
-    → at₀ + length all ≤ length room₀ → at + sum ws ≤ length now
-record-fits room₀ at₀ all now at ws vs rest w h =
-    omega (arith, w .place, w .long, length-append (pack ws vs) rest, length-pack ws vs)
+module _ {A : Type 0} (f : A → List ℕ) (z : A) (ws : List ℕ) (l : List A) (n : ℕ) (fits : n ≤ length l) where
+  long : length (take n l) ≡ n
+  long = length-take-le n l fits
 
--- the records of the first d of a list, from i on
-abbrev pub rows : {A : Type 0} → (A → List ℕ) → List ℕ → List A → ℕ → ℕ → List ℕ
-rows f ws l d i = packs ws (map f (drop i (take d l)))
-
-module _ {A : Type 0} (f : A → List ℕ) (z : A) (ws : List ℕ) (l : List A) (d : ℕ) (fits : d ≤ length l) where
-  long : length (take d l) ≡ d
-  long = length-take-le d l fits
-
-  row-first : (i : ℕ) → i < d → (tail : List ℕ) → rows f ws l d i ++ tail ≡ pack ws (f (getD l i z)) ++ (rows f ws l d (i + 1) ++ tail)
+  row-first : (i : ℕ) → i < n → (tail : List ℕ) → rows f ws l n i ++ tail ≡ pack ws (f (getD l i z)) ++ (rows f ws l n (i + 1) ++ tail)
   unfolding flatMap
   row-first i h tail =
-      rw (drop-cons (take d l) i z (rw long h), getD-take d l i z h, add-one i)
-      (append-assoc (pack ws (f (getD l i z))) (packs ws (map f (drop (suc i) (take d l)))) tail)
+      rw (drop-cons (take n l) i z (rw long h), getD-take n l i z h, add-one i)
+      (append-assoc (pack ws (f (getD l i z))) (packs ws (map f (drop (suc i) (take n l)))) tail)
 
-  row-last : rows f ws l d d ≡ []
+  row-last : rows f ws l n n ≡ []
   unfolding flatMap
-  row-last = rw (drop-of-length-le (take d l) {i = d} (omega (arith, long)))
+  row-last = rw (drop-of-length-le (take n l) {i = n} (omega (arith, long)))
 
-  pub rows-long : length (rows f ws l d 0) ≡ d * sum ws
-  rows-long = length-packs ws (map f (take d l)) ∙ rw (length-map (take d l) f, long)
+-- what is still to be written of the image of n ports after the ports below i, and after the copy sets of those below j
+abbrev pub PortsFrom : Table → ℕ → List ℕ → List ℕ → ℕ → Type 0
+PortsFrom t n out now i =
+    Writing out (encode t) now (portPlace i)
+    (rows portValues portWidths (t .ports) n i ++ (pack (copiedWidths n) (copiedValues (t .shared)) ++ rows copiesValues (copiesWidths n) (t .copies) n 0))
 
-  module _ (room₀ : List ℕ) (at₀ : ℕ) (all now : List ℕ) (at i : ℕ) (tail : List ℕ) (w : Writing room₀ at₀ all now at (rows f ws l d i ++ tail)) where
-    pub row-fits : i < d → at₀ + length all ≤ length room₀ → at + sum ws ≤ length now
-    row-fits h k = record-fits room₀ at₀ all now at ws (f (getD l i z)) (rows f ws l d (i + 1) ++ tail) (rw (row-first i h tail) at w) k
+abbrev pub CopiesFrom : Table → ℕ → List ℕ → List ℕ → ℕ → Type 0
+CopiesFrom t n out now j = Writing out (encode t) now (copiesPlace n j) (rows copiesValues (copiesWidths n) (t .copies) n j ++ [])
 
-    pub row-turn : i < d → (next : List ℕ) (to : ℕ) → next ≡ sets now at (pack ws (f (getD l i z))) → to ≡ at + sum ws
-        → Writing room₀ at₀ all next to (rows f ws l d (i + 1) ++ tail)
-    row-turn h next to e p =
-        wrote room₀ at₀ all now next at to (pack ws (f (getD l i z))) (rows f ws l d (i + 1) ++ tail) (rw (row-first i h tail) at w) e
-        (omega (arith, p, length-pack ws (f (getD l i z))))
+-- each record of a table of n ports is written in its turn
+module _ (t : Table) (s : Sized t) (n : ℕ) (h : n ≤ room) (out : List ℕ) where
+  pub start-written : (mid now : List ℕ) → n ≡ t .shared .d → size n ≤ length out
+      → mid ≡ putAt headWidths (headValues n) 0 out → now ≡ putAt sharedWidths (sharedValues (t .shared)) (sum headWidths) mid → PortsFrom t n out now 0
+  unfolding encode portPlace
+  start-written mid now d k p q =
+      let f : length (encode t) ≤ length out = omega (arith, length-encode t s (omega (arith, d, h)), ap size d, k) in
+      put-next out (encode t) mid now (sum headWidths) (portPlace 0) sharedWidths (sharedValues (t .shared)) _ (rw (zero-mul (sum portWidths)) (omega arith))
+      (put-next out (encode t) out mid 0 (sum headWidths) headWidths (headValues n) _ (omega arith)
+      (rw d (record { fits = f; long = refl; place = omega arith; text = refl }))
+      p)
+      q
 
-    pub row-end : i ≡ d → Writing room₀ at₀ all now at tail
-    row-end e = rw row-last at (rw e at w)
+  pub port-written : (now next : List ℕ) (i : ℕ) → i < n → PortsFrom t n out now i → next ≡ putAt portWidths (portValues (portAt t i)) (portPlace i) now
+      → PortsFrom t n out next (i + 1)
+  unfolding portPlace
+  port-written now next i l w e =
+      put-next out (encode t) now next (portPlace i) (portPlace (i + 1)) portWidths (portValues (portAt t i)) _
+      (rw (add-one i) (omega (arith, suc-mul i (sum portWidths))))
+      (rw (row-first portValues noPort portWidths (t .ports) n (omega (arith, s .ports, h)) i l _) at w)
+      e
 
--- the length of an image
-pub length-encode : (t : Table) → Sized t → t .shared .d ≤ room → length (encode t) ≡ size (t .shared .d)
-unfolding encode size portPlace copiesPlace sum
-length-encode t s h =
-    let d = t .shared .d in
-    let p = rows-long portValues noPort portWidths (t .ports) d (omega (arith, s .ports, h)) in
-    let c = rows-long copiesValues noCopies copiesWidths (t .copies) d (omega (arith, s .copies, h)) in
-    simp (length-append, length-pack, p, c) (omega arith)
+  pub copied-written : (now next : List ℕ) (i : ℕ) → i ≡ n → PortsFrom t n out now i → next ≡ putAt (copiedWidths n) (copiedValues (t .shared)) (portPlace n) now
+      → CopiesFrom t n out next 0
+  unfolding copiesPlace
+  copied-written now next i l w e =
+      put-next out (encode t) now next (portPlace n) (copiesPlace n 0) (copiedWidths n) (copiedValues (t .shared)) _
+      (rw (zero-mul (sum (copiesWidths n))) (omega arith))
+      (rw (append-nil (rows copiesValues (copiesWidths n) (t .copies) n 0))
+      (rw (row-last portValues noPort portWidths (t .ports) n (omega (arith, s .ports, h))) at (rw l at w)))
+      e
 
--- head and shared record written: what is left
-pub begun : (t : Table) (room₀ next : List ℕ) (to : ℕ)
-    → next ≡ sets room₀ 0 (pack headWidths (headValues (t .shared .d)) ++ pack sharedWidths (sharedValues (t .shared)))
-    → to ≡ sum headWidths + sum sharedWidths
-    → Writing room₀ 0 (encode t) next to
-    (rows portValues portWidths (t .ports) (t .shared .d) 0
-    ++ (pack copiedWidths (copiedValues (t .shared)) ++ rows copiesValues copiesWidths (t .copies) (t .shared .d) 0))
-unfolding encode
-begun t room₀ next to e p =
-    let h = pack headWidths (headValues (t .shared .d)) in
-    let s = pack sharedWidths (sharedValues (t .shared)) in
-    let rest = rows portValues portWidths (t .ports) (t .shared .d) 0
-    ++ (pack copiedWidths (copiedValues (t .shared)) ++ rows copiesValues copiesWidths (t .copies) (t .shared .d) 0) in
-    wrote room₀ 0 (encode t) room₀ next 0 to (h ++ s) rest
-    (rw (append-assoc h s rest) (write-start room₀ 0 (encode t)))
-    e
-    (omega (arith, p, length-append h s, length-pack headWidths (headValues (t .shared .d)), length-pack sharedWidths (sharedValues (t .shared))))
+  pub copies-written : (now next : List ℕ) (j : ℕ) → j < n → CopiesFrom t n out now j
+      → next ≡ putAt (copiesWidths n) (copiesValues (copiesAt t j)) (copiesPlace n j) now → CopiesFrom t n out next (j + 1)
+  unfolding copiesPlace
+  copies-written now next j l w e =
+      put-next out (encode t) now next (copiesPlace n j) (copiesPlace n (j + 1)) (copiesWidths n) (copiesValues (copiesAt t j)) _
+      (rw (add-one j) (omega (arith, suc-mul j (sum (copiesWidths n)))))
+      (rw (row-first copiesValues noCopies (copiesWidths n) (t .copies) n (omega (arith, s .copies, h)) j l []) at w)
+      e
+
+  pub all-written : (now : List ℕ) (j : ℕ) → j ≡ n → CopiesFrom t n out now j → now ≡ sets out 0 (encode t)
+  all-written now j l w = rw (row-last copiesValues noCopies (copiesWidths n) (t .copies) n (omega (arith, s .copies, h))) at (rw l at (w .text))
+
+-- as many ports are written as are tested
+pub all-ports : (t : Table) (n : ℕ) → n ≡ portsOf (t .shared .d) → good t ≡ true → n ≡ t .shared .d
+unfolding portsOf sizeGood
+all-ports t n e g = e ∙ rw (le-leb 1 (t .shared .d) (shared-rules t g .some), le-leb (t .shared .d) room (shared-rules t g .fits))
 
 -- what writing answers
 module _ (t : Table) (n : ℕ) where
-  pub answer-bad : room < t .shared .d → putAnswer t n ≡ BadTable
-  unfolding putAnswer
-  answer-bad h = rw (lt-ltb room (t .shared .d) h)
+  pub answer-bad : good t ≡ false → writeAnswer t n ≡ BadTable
+  unfolding writeAnswer
+  answer-bad g = rw g
 
-  pub answer-short : t .shared .d ≤ room → n < size (t .shared .d) → putAnswer t n ≡ ShortRoom
-  unfolding putAnswer
-  answer-short h k = rw (le-ltb room (t .shared .d) h, lt-ltb n (size (t .shared .d)) k)
+  pub answer-short : good t ≡ true → n < size (t .shared .d) → writeAnswer t n ≡ ShortRoom
+  unfolding writeAnswer
+  answer-short g k = rw (g, lt-ltb n (size (t .shared .d)) k)
 
-  pub answer-done : t .shared .d ≤ room → size (t .shared .d) ≤ n → putAnswer t n ≡ Done
-  unfolding putAnswer
-  answer-done h k = rw (le-ltb room (t .shared .d) h, le-ltb n (size (t .shared .d)) k)
+  pub answer-done : good t ≡ true → size (t .shared .d) ≤ n → writeAnswer t n ≡ Done
+  unfolding writeAnswer
+  answer-done g k = rw (g, le-ltb n (size (t .shared .d)) k)

@@ -1,14 +1,34 @@
 use native.Mathlib.Omega.{arith}
+use borrow.Author.Tests.{le-leb, lt-leb}
 use Rattle.layout.specs.Bytes.{sum}
-use Rattle.layout.specs.Layout.{headWidths, sharedWidths, portWidths, copiedWidths, copiesWidths, portPlace, copiesPlace}
+use Rattle.layout.specs.Layout.{headWidths, sharedWidths, portWidths, setWidth, copiedWidths, copiesWidths, portPlace, copiesPlace}
 use borrow.Author.Needs.{needs}
 use Rattle.layout.proofs.copies_place.Statement.{statement}
 use Rattle.layout.proofs.copies_place.Tie as tie
 
 returns : tie.Need-returns
-unfolding sum headWidths sharedWidths portWidths copiedWidths copiesWidths portPlace copiesPlace
-returns c = omega arith
+unfolding sum headWidths sharedWidths portWidths setWidth copiedWidths copiesWidths portPlace copiesPlace
+returns c = rw (le-leb _ _ (c .if1 .taken)) (omega arith)
+
+returns-2 : tie.Need-returns-2
+unfolding sum headWidths sharedWidths portWidths setWidth copiedWidths copiesWidths portPlace copiesPlace
+returns-2 c = rw (lt-leb _ _ (c .if1 .left)) (omega arith)
 
 pub copies-place-spec : {M : Type 1} → statement M
 copies-place-spec =
-    tie.close (tie.spec (λ c. search needs) (λ c. search needs) (λ c. search needs) (λ c. search needs) (λ c. search needs) (λ c. search needs) returns)
+    tie.close
+    (tie.spec
+    (λ c. search needs)
+    (λ c. search needs)
+    (λ c. search needs)
+    (λ c. search needs)
+    (λ c. search needs)
+    (λ c. search needs)
+    returns
+    (λ c. search needs)
+    (λ c. search needs)
+    (λ c. search needs)
+    (λ c. search needs)
+    (λ c. search needs)
+    (λ c. search needs)
+    returns-2)

@@ -1,14 +1,11 @@
-use native.Mathlib.Omega.{arith}
-use Rattle.layout.specs.Bytes.{sum}
-use Rattle.layout.specs.Layout.{headWidths, sharedWidths, portWidths, copiedWidths, copiesWidths, portPlace, copiesPlace, size}
+use Rattle.layout.specs.Layout.{size}
 use borrow.Author.Needs.{needs}
 use Rattle.layout.proofs.size.Statement.{statement}
 use Rattle.layout.proofs.size.Tie as tie
 
 returns : tie.Need-returns
-unfolding sum headWidths sharedWidths portWidths copiedWidths copiesWidths portPlace copiesPlace size
-returns c = omega arith
+unfolding size
+returns c = c .copies-place .ensures
 
 pub size-spec : {M : Type 1} → statement M
-size-spec =
-    tie.close (tie.spec (λ c. search needs) (λ c. search needs) (λ c. search needs) (λ c. search needs) (λ c. search needs) (λ c. search needs) returns)
+size-spec = tie.close (tie.spec (λ c κs. search needs) returns)

@@ -1,11 +1,11 @@
 -- Laws of records of any widths: what is packed is unpacked, and what is unpacked is packed again.
 use mathlib.Core.Path.{_≡_, refl, sym, ap, _∙_}
-use mathlib.Core.List.{List, [], _∷_, _++_, flatMap, append-assoc, append-nil}
+use mathlib.Core.List.{List, [], _∷_, _++_, map, flatMap, append-assoc, append-nil}
 use Prim.Native.Nat.{ℕ, zero, suc, _+_, _*_, _%_, _^_, _≤_, _<_}
 use native.Mathlib.Nat.{zero-mul, suc-mul, add-comm}
 use native.Mathlib.Numerals.{add-one}
 use native.Mathlib.Omega.{arith}
-use lib.ListN.{length, getD, take, drop, length-append, length-drop}
+use lib.ListN.{length, getD, take, drop, length-append, length-drop, length-map}
 use lib.Seq.{take-at, drop-at, take-add, length-take-le, getD-drop, drop-drop}
 use Rattle.layout.specs.Bytes.{Bytes, little, value, sum, pack, unpack, unpacks}
 use Rattle.layout.specs.Laws.Digits.{bytes-nil, bytes-append, bytes-drop, bytes-take, length-little, little-bytes, value-little, value-cut, little-value, value-fits}
@@ -101,6 +101,9 @@ length-packs ws [] = sym (zero-mul (sum ws))
 length-packs ws (vs ∷ vss) =
     length-append (pack ws vs) (packs ws vss)
     ∙ rw (length-pack ws vs, length-packs ws vss, suc-mul (length vss) (sum ws)) (add-comm (sum ws) _)
+
+pub rows-long : {A : Type 0} (f : A → List ℕ) (ws : List ℕ) (l : List A) (d : ℕ) → d ≤ length l → length (packs ws (map f (take d l))) ≡ d * sum ws
+rows-long f ws l d h = length-packs ws (map f (take d l)) ∙ rw (length-map (take d l) f, length-take-le d l h)
 
 pub packs-bytes : (ws : List ℕ) (vss : List (List ℕ)) → Bytes (packs ws vss)
 unfolding flatMap

@@ -10,9 +10,13 @@ use borrow.Author.Tests.{ltb-true, ltb-false, leb-true, le-leb}
 use lib.Dec.{ltb, leb}
 use lib.ListN.{length, getD, drop, length-append, drop-of-length-le}
 use lib.Seq.{sets, drop-cons, length-sets}
+use Rattle.model.specs.Table.{Sized}
 use Rattle.model.specs.Laws.Tests.{split}
+use Rattle.model.specs.Laws.Kept.{made-sized}
+use Rattle.model.specs.Laws.Paid.{paid-sized}
 use Rattle.listing.specs.declared.Run.{Run}
 use Rattle.lines.specs.declared.Act.{Act}
+use Rattle.lines.specs.declared.Act.the-variants.{Keep, Open, Order, Bad}
 use Rattle.listing.specs.declared.Fed.{Fed}
 use Rattle.lines.specs.Reading.{act, live}
 use Rattle.listing.specs.Feed.{acted, feeding}
@@ -50,23 +54,33 @@ no-byte room r input i h = go (ltb i (length input)) refl h
     go true e h = rw (drop-cons input i 0 (ltb-true i (length input) e), h)
     go false e h = rw (drop-of-length-le input (ltb-false i (length input) e))
 
+-- what a run does with a byte leaves a table as the code holds it
+acted-sized : (r : Run) (a : Act) → Sized (r .table) → Sized (acted r a .0 .table)
+unfolding acted
+acted-sized r (Keep p) s = s
+acted-sized r (Open d) s = made-sized d
+acted-sized r (Order l e k) s = paid-sized (r .table) k e s
+acted-sized r Bad s = s
+
 -- the loop over `input`, from the run r₀ and the buffer out₀, with the run r, the buffer out, and so many bytes taken and written
 pub record Taking (input out₀ : List ℕ) (r₀ : Run) (out : List ℕ) (r : Run) (taken written : ℕ) : Type 0 where
   pub upto : taken ≤ length input
   pub inside : written ≤ length out₀
   pub long : length out ≡ length out₀
+  pub sized : Sized (r .table)
   pub run : feeding (length out₀ - written) r (drop taken input) .0 .run ≡ feeding (length out₀) r₀ input .0 .run
   pub count : taken + feeding (length out₀ - written) r (drop taken input) .0 .taken ≡ feeding (length out₀) r₀ input .0 .taken
   pub size : written + feeding (length out₀ - written) r (drop taken input) .0 .written ≡ feeding (length out₀) r₀ input .0 .written
   pub bytes : sets out written (feeding (length out₀ - written) r (drop taken input) .1) ≡ sets out₀ 0 (feeding (length out₀) r₀ input .1)
 
 module _ (input out₀ : List ℕ) (r₀ : Run) where
-  pub begins : Taking input out₀ r₀ out₀ r₀ 0 0
-  begins =
+  pub begins : Sized (r₀ .table) → Taking input out₀ r₀ out₀ r₀ 0 0
+  begins s =
       record {
         upto = omega arith;
         inside = omega arith;
         long = refl;
+        sized = s;
         run = rw (sub-zero (length out₀));
         count = rw (sub-zero (length out₀)) (omega arith);
         size = rw (sub-zero (length out₀)) (omega arith);
@@ -93,6 +107,7 @@ module _ (input out₀ : List ℕ) (r₀ : Run) where
         upto = omega (arith, h);
         inside = omega (arith, l, p .place, p .short, t .inside, t .long);
         long = ap length (p .bytes) ∙ length-sets out written x ∙ t .long;
+        sized = rw f (acted-sized r a (t .sized));
         run = rw n at (t .run);
         count = omega (arith, rw n at (t .count));
         size = omega (arith, rw n at (t .size), p .place);

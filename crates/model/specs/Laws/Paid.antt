@@ -1,7 +1,6 @@
 -- On a good table the orders of a run whose check has been paid are the events.
 use mathlib.Core.Path.{_≡_, refl}
 use mathlib.Core.Bool.{Bool, true, false, cond, not}
-use mathlib.Core.List.{List, [], _∷_}
 use Prim.Native.Nat.{ℕ, _≤_}
 use borrow.Author.Tests.{leb-false, le-leb, lt-ltb}
 use lib.Dec.{eqb, leb}
@@ -12,14 +11,12 @@ use Rattle.model.specs.Table.{Sized, portAt}
 use Rattle.model.specs.Good.{sizeGood, good}
 use Rattle.model.specs.Cost.{free}
 use Rattle.model.specs.Event.{numberOf, firstOf, refusals, refusal, stepping, event}
-use Rattle.model.specs.Run.{Order, after, ran, codes}
-use Rattle.model.specs.Paid.{placed, paidAnswer, paidEvent, paidRan, paidCodes}
+use Rattle.model.specs.Paid.{placed, paidAnswer, paidEvent}
 use Rattle.model.specs.Laws.Tests.{split}
 use Rattle.model.specs.Laws.Stepped.{carried-parts}
 use Rattle.model.specs.Laws.Rules.{shared-rules, port-rules}
-use Rattle.model.specs.Laws.After.{put-sized, step-sized, after-sized}
+use Rattle.model.specs.Laws.After.{put-sized, step-sized}
 use Rattle.model.specs.Laws.Fees.{Small, nothing, carried-cost}
-use Rattle.model.specs.Laws.Kept.{good-after}
 
 -- such an order keeps the lengths
 pub paid-sized : (t : Table) (k e : ℕ) → Sized t → Sized (paidEvent t k e .table)
@@ -56,17 +53,6 @@ module _ (t : Table) (k e : ℕ) (g : good t ≡ true) where
   pub paid-event : paidEvent t k e ≡ event t k e
   unfolding paidEvent event
   paid-event = rw paid-answer
-
-pub paid-ran : (t : Table) (os : List Order) → Sized t → good t ≡ true → paidRan t os ≡ ran t os
-unfolding paidRan ran
-paid-ran t [] s g = refl
-paid-ran t (o ∷ os) s g = rw (paid-event t (o .port) (o .event) g) (paid-ran (after t o) os (after-sized t o s) (good-after t o s g))
-
-pub paid-codes : (t : Table) (os : List Order) → Sized t → good t ≡ true → paidCodes t os ≡ codes t os
-unfolding paidCodes codes
-paid-codes t [] s g = refl
-paid-codes t (o ∷ os) s g =
-    rw (paid-event t (o .port) (o .event) g, paid-codes (after t o) os (after-sized t o s) (good-after t o s g))
 
 -- a port at or above d is refused
 pub no-port : (t : Table) (k e : ℕ) → good t ≡ true → t .shared .d ≤ k → event t k e ≡ free NoSuchPort t

@@ -6,6 +6,7 @@ use Rattle.model.specs.declared.Port.{Port}
 use Rattle.model.specs.declared.Copies.{Copies}
 use Rattle.model.specs.declared.Shared.{Shared}
 use Rattle.model.specs.declared.Touch.{Touch}
+use Rattle.model.specs.declared.Fee.{Fee}
 use Rattle.model.specs.declared.Charge.{Charge}
 use Rattle.model.specs.declared.Cell.{Cell}
 use Rattle.model.specs.declared.Cell.the-variants.{Nothing, Status, Go, Spin, Active, Lock, CandidateGo, SeenSpin}
@@ -136,6 +137,14 @@ distributed Active k w = 1
 distributed Lock k w = 1
 distributed CandidateGo k w = remote (w .candidate) k
 distributed SeenSpin k w = remote (w .seenowner) k
+
+-- a touch by port k, whose working values are w, of a word that belongs to port q, where m is the set of ports with a copy of it
+abbrev pub fee : ℕ → ℕ → ℕ → Fee
+fee m cached apart = record { set = m; cached = cached; distributed = apart }
+
+unfoldable pub feeOf : Touch → ℕ → Work → Port → ℕ → Fee
+feeOf u k w q m =
+    cond (old (u .cell) w q) (fee m 1 (distributed (u .cell) k w)) (fee (copied (u .kind) k m) (cached (u .kind) k m) (distributed (u .cell) k w))
 
 -- a touch by port k, whose working values are w; q is the port that the word belongs to, and c its copy sets
 unfoldable pub charge : Touch → ℕ → Work → Port → Shared → Copies → Charge

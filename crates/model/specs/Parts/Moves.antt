@@ -1,15 +1,16 @@
 -- A step as the code takes it: from what a port sees to what it changes, a clause for each point, in the document's order, with the next point as its number.
 use mathlib.Core.Bool.{Bool, true, false, cond, _&&_}
 use Prim.Native.Nat.{ℕ, _+_, _-_, _^_}
-use lib.Dec.{eqb, ltb}
+use lib.Dec.{eqb, leb, ltb}
 use Rattle.model.specs.declared.Word.{Word}
 use Rattle.model.specs.declared.Port.{Port}
 use Rattle.model.specs.declared.View.{View}
 use Rattle.model.specs.declared.Move.{Move}
-use Rattle.model.specs.Table.{TRY, CS, EXIT, ABORT, word, readSpin}
-use Rattle.model.specs.Mask.{stands, added}
+use Rattle.model.specs.Table.{most, TRY, CS, EXIT, ABORT, word, readSpin}
+use Rattle.model.specs.Mask.{stands, within, added}
 use Rattle.model.specs.Ring.{next}
-use Rattle.model.specs.Points.{Point, none, p0, p1, p2, p3, p4, p5, p6, p8, p9, p10, p11, p12, p13, p14, p15, p16, p17, p18, p19, x0, x1, x2, x3, x4, x5, tens, back}
+use Rattle.model.specs.Points.{Point, none, p0, p1, p2, p3, p4, p5, p6, p8, p9, p10, p11, p12, p13, p14, p15, p16, p17, p18, p19, x0, x1, x2, x3, x4, x5, tens, back, pointOf}
+use Rattle.model.specs.Good.{implies}
 use Rattle.model.specs.Step.{at, withStatus, withFlag, withGo, withOwn, withSeen, withCandidate, withCandidateSpin, swapped, newSpin, unasked}
 
 -- what a step of port k sees: its own record, ACTIVE, the number of ports, k, GO of the port that it touches, the word
@@ -77,3 +78,13 @@ step (x4 x) v =
     changed v (cond (eqb (v .word .taken) 1 && ltb 0 (v .word .spin))
     (at (tens x + 5) (withSeen (v .word) (v .own))) (at (back x) (v .own)))
 step (x5 x) v = record { own = at (back x) (v .own); active = v .active; word = v .word; makes = false; sets = true }
+
+-- a step can be made: there are at most 64 ports, its own and its seen owner's are among them, no bit of ACTIVE stands above them, and at 4 a spin is left to make
+unfoldable pub sees : View → Bool
+sees v =
+    leb (v .d) 64 && ltb (v .k) (v .d) && ltb (v .own .work .seenowner) (v .d) && within (v .d) (v .active)
+    && implies (eqb (v .own .point) 4) (ltb (v .own .made) most)
+
+-- what it changes; nothing where it can't be made
+unfoldable pub tried : View → Move
+tried v = cond (sees v) (step (pointOf (v .own .point)) v) (changed v (v .own))

@@ -1,14 +1,53 @@
--- The rules for one place of a table as the code tests them: on what all share, the place's records, and made of its port's seen owner and candidate.
-use mathlib.Core.Bool.{Bool, cond, _&&_}
+-- The rules for a port as the code tests them: those of its own records, and those for what it has seen, which look at made of two other ports.
+use mathlib.Core.Bool.{Bool, cond, not, _&&_}
+use mathlib.Core.List.{[], _∷_}
 use Prim.Native.Nat.{ℕ}
-use lib.Dec.{ltb}
+use lib.Bits.{bitOr}
+use lib.Dec.{eqb, leb, ltb}
+use Rattle.model.specs.declared.Work.{Work}
 use Rattle.model.specs.declared.Port.{Port}
 use Rattle.model.specs.declared.Copies.{Copies}
 use Rattle.model.specs.declared.Shared.{Shared}
-use Rattle.model.specs.Good.{fieldsGood, workGood, copiesGood, portEmpty}
+use Rattle.model.specs.Table.{room}
+use Rattle.model.specs.Points.{oneOf, ownPlace, seenPlace, candidatePlace, candidateSpinPlace}
+use Rattle.model.specs.Good.{implies, sizeGood, fieldsGood, copiesGood}
 
-unfoldable pub placeRules : Shared → ℕ → Port → Copies → ℕ → ℕ → Bool
-placeRules s k p c seenmade candidatemade =
-    cond (ltb k (s .d))
-    (fieldsGood (s .active) k p && workGood (s .d) (p .point) (p .made) seenmade candidatemade (p .work) && copiesGood (s .d) (p .made) c)
-    (portEmpty p c)
+-- its fields, its copy sets and its own spin
+unfoldable pub ownRules : Shared → ℕ → Port → Copies → Bool
+ownRules s k p c =
+    fieldsGood (s .active) k p && copiesGood (s .d) (p .made) c
+    && leb (p .work .own) (p .made) && implies (not (ownPlace (p .point))) (eqb (p .work .own) 0)
+
+-- at a point without a place for what is seen, all of it is 0
+unfoldable pub unseenRules : ℕ → Work → Bool
+unseenRules d w = ltb 0 d && eqb (w .seenowner) 0 && eqb (w .candidate) 0 && eqb (w .seenspin) 0 && eqb (w .candidatespin) 0
+
+-- at the others, with made of the seen owner and of the candidate
+unfoldable pub seenRules : ℕ → ℕ → ℕ → ℕ → Work → Bool
+unfolding oneOf
+seenRules d point seenmade candidatemade w =
+    ltb (w .seenowner) d && ltb (w .candidate) d && leb (w .seenspin) seenmade && leb (w .candidatespin) candidatemade
+    && implies (oneOf point (25 ∷ 35 ∷ 45 ∷ [])) (ltb 0 (w .seenspin))
+    && implies (not (candidatePlace point)) (eqb (w .candidate) 0) && implies (not (candidateSpinPlace point)) (eqb (w .candidatespin) 0)
+
+-- all rules for port k
+unfoldable pub portRules : Shared → ℕ → Port → Copies → ℕ → ℕ → Bool
+portRules s k p c seenmade candidatemade =
+    ownRules s k p c
+    && cond (seenPlace (p .point)) (seenRules (s .d) (p .point) seenmade candidatemade (p .work)) (unseenRules (s .d) (p .work))
+
+-- all that is kept for a port, joined bit by bit: 0 where each of it is
+unfoldable pub joinedPort : Port → Copies → ℕ
+joinedPort p c =
+    bitOr
+    (bitOr (bitOr (bitOr (c .status) (c .go)) (c .spin))
+    (bitOr (bitOr (bitOr (bitOr (bitOr (p .point) (p .status)) (p .flag)) (p .value)) (p .work .seenowner)) (p .work .candidate)))
+    (bitOr (bitOr (bitOr (bitOr (p .made) (p .go)) (p .work .own)) (p .work .seenspin)) (p .work .candidatespin))
+
+-- how many ports are tested: D, or none where it is out of range
+unfoldable pub portsOf : ℕ → ℕ
+portsOf d = cond (sizeGood d) d 0
+
+-- the place of port k in a table; place 0 where a table has no room for it
+unfoldable pub slotOf : ℕ → ℕ
+slotOf k = cond (ltb k room) k 0

@@ -1,15 +1,16 @@
--- A number's digits: one more digit than a tenth of it has, and at most twenty in 64 bits.
-use mathlib.Core.Path.{_≡_, refl, ap}
+-- A number's digits: one more digit than a tenth of it has, and at most twenty in 64 bits. They are put from the last to the first.
+use mathlib.Core.Path.{_≡_, refl, ap, _∙_}
 use mathlib.Core.Bool.{Bool, true, false}
 use mathlib.Core.List.{List, [], _∷_, _++_}
-use Prim.Native.Nat.{ℕ, zero, suc, _+_, _*_, _/_, _%_, _≤_, _<_}
+use Prim.Native.Nat.{ℕ, zero, suc, _+_, _-_, _*_, _/_, _%_, _≤_, _<_}
 use native.Mathlib.Omega.{arith}
 use borrow.Author.Tests.{lt-ltb, le-ltb, ltb-true, ltb-false}
 use lib.Dec.{ltb}
 use lib.ListN.{length, length-append}
+use lib.Seq.{sets}
 use Rattle.lines.specs.Line.{nought}
 use Rattle.text.specs.Text.{digitsIn, decimal}
-use Rattle.text.specs.Laws.Put.{Put, and-then, within}
+use Rattle.text.specs.Laws.Put.{Put, last-first}
 
 -- turns enough are turns enough
 turns-enough : (f g n : ℕ) → n < f → n < g → digitsIn f n ≡ digitsIn g n
@@ -55,21 +56,37 @@ pub digits-fit : (n : ℕ) → n < 18446744073709551616 → length (decimal n) �
 unfolding tens
 digits-fit n h = digits-short 19 n (omega arith)
 
--- a number is put as its last digit after the digits of its tenth
-pub put-one : {out exit : List ℕ} {at r n d : ℕ} → n < 10 → d ≡ nought + n % 10 → Put out at (d ∷ []) 1 r exit
-    → Put out at (decimal n) 20 r exit
-put-one {out} {exit} {at} {r} {n} {d} h e p =
-    let l : d ≡ nought + n = omega (arith, e) in
-    rw (digits-one n h) (within (omega arith) (rw l at p))
+-- how many digits
+pub count-one : (n : ℕ) → n < 10 → length (decimal n) ≡ 1
+count-one n h = rw (digits-one n h)
 
-pub put-next : {out mid exit : List ℕ} {at r s n d : ℕ} → 10 ≤ n → n < 18446744073709551616 → d ≡ nought + n % 10
-    → Put out at (decimal (n / 10)) 20 r mid
-    → Put mid r (d ∷ []) 1 s exit
-    → Put out at (decimal n) 20 s exit
-put-next {out} {mid} {exit} {at} {r} {s} {n} {d} h f e p q =
-    let t = and-then p (rw e at q) in
+pub count-next : (n : ℕ) → 10 ≤ n → length (decimal n) ≡ length (decimal (n / 10)) + 1
+count-next n h = rw (digits-next n h) (length-append (decimal (n / 10)) ((nought + n % 10) ∷ []))
+
+-- the loop that puts n from its last digit to its first: the digits of x are still to put, up to place i
+pub record Putting (out₀ : List ℕ) (at n : ℕ) (out : List ℕ) (x i : ℕ) : Type 0 where
+  pub place : i ≡ at + length (decimal x)
+  pub short : i ≤ at + 20
+  pub bytes : sets out at (decimal x) ≡ sets out₀ at (decimal n)
+
+pub begins : {out : List ℕ} {at n c : ℕ} → n < 18446744073709551616 → c ≡ length (decimal n) → Putting out at n out n (at + c)
+begins {out} {at} {n} {c} f e = record { place = omega (arith, e); short = omega (arith, e, digits-fit n f); bytes = refl }
+
+pub turns : {out₀ out exit : List ℕ} {at n x i d r : ℕ} → 10 ≤ x → d ≡ nought + x % 10 → Putting out₀ at n out x i
+    → Put out (i - 1) (d ∷ []) 1 r exit
+    → Putting out₀ at n exit (x / 10) (i - 1)
+turns {out₀} {out} {exit} {at} {n} {x} {i} {d} {r} h e t p =
+    let l : i - 1 ≡ at + length (decimal (x / 10)) = omega (arith, t .place, count-next x h) in
     record {
-      place = rw (digits-next n h) (t .place);
-      short = digits-fit n f;
-      bytes = rw (digits-next n h) (t .bytes);
+      place = l;
+      short = omega (arith, t .short);
+      bytes = rw (p .bytes, l, e) (last-first (decimal (x / 10)) out at (nought + x % 10) ∙ (rw (digits-next x h) at (t .bytes)));
     }
+
+pub ends : {out₀ out exit : List ℕ} {at n x i d r c : ℕ} → x < 10 → d ≡ nought + x % 10 → n < 18446744073709551616 → c ≡ length (decimal n)
+    → Putting out₀ at n out x i
+    → Put out at (d ∷ []) 1 r exit
+    → Put out₀ at (decimal n) 20 (at + c) exit
+ends {out₀} {out} {exit} {at} {n} {x} {i} {d} {r} {c} h e f q t p =
+    let l : d ≡ nought + x = omega (arith, e) in
+    record { place = omega (arith, q); short = digits-fit n f; bytes = p .bytes ∙ (rw (digits-one x h, ← l) at (t .bytes)) }

@@ -5,7 +5,7 @@ use Prim.Native.Nat.{ℕ, suc, _+_, _≤_}
 use native.Mathlib.Nat.{add-zero, add-suc, suc-add}
 use native.Mathlib.Omega.{arith}
 use lib.ListN.{length, set, length-append}
-use lib.Seq.{sets}
+use lib.Seq.{sets, set-comm}
 
 -- places in a buffer are below this
 abbrev pub limit : ℕ
@@ -21,6 +21,14 @@ sets-append [] ys out i = ap (λ (k : ℕ). sets out k ys) (add-zero i)
 sets-append (x ∷ xs) ys out i =
     ap (λ (k : ℕ). sets (sets (set out i x) (suc i) xs) k ys) (add-suc i (length xs) ∙ sym (suc-add i (length xs)))
     ∙ sets-append xs ys (set out i x) (suc i)
+
+-- a text's last byte can be put before the others
+pub last-first : (xs out : List ℕ) (i b : ℕ) → sets (set out (i + length xs) b) i xs ≡ sets out i (xs ++ b ∷ [])
+last-first [] out i b = ap (λ (k : ℕ). set out k b) (add-zero i)
+last-first (x ∷ xs) out i b =
+    ap (λ (l : List ℕ). sets l (suc i) xs)
+    (set-comm out (i + suc (length xs)) i b x (λ e. omega (arith, e)) ∙ ap (λ (k : ℕ). set (set out i x) k b) (add-suc i (length xs) ∙ sym (suc-add i (length xs))))
+    ∙ last-first xs (set out i x) (suc i) b
 
 -- one text after another
 pub and-then : {out exit last xs ys : List ℕ} {at r s m n : ℕ} → Put out at xs m r exit → Put exit r ys n s last

@@ -1,17 +1,19 @@
 //! The engine behind its boundary, over the archive of the proved crate `cabi`: images written and read, events and runs on them.
 
 use bench::command;
-use bench::job::{Answers, Job, Task, Work};
+use bench::job::{Answers, Job, Task};
 use bench::stack::{pointer, Probe};
-use reference::{boundary, ROOM};
+use reference::number::DONE;
+use reference::{in_place, ROOM};
+use std::mem::swap;
 use std::process::ExitCode;
 
 #[path = "../../../yarvelow/src/sys.rs"]
 mod sys;
 
-use sys::{check, event, fresh, run};
+use sys::{check, event, event_into, fresh, run};
 
-// The jobs, each once over the four functions that either side has.
+// The jobs, each once over the functions that either side has.
 
 fn write_with(fresh: fn(u64, &mut [u8]) -> u64, task: &Task, answers: &mut Answers) {
     for number in &mut answers.numbers {
@@ -30,6 +32,21 @@ fn events_with(event: fn(&mut [u8], u64, u64) -> u64, task: &Task, answers: &mut
     answers.image.copy_from_slice(&task.fresh);
     for (order, number) in task.orders.chunks_exact(2).zip(&mut answers.numbers) {
         *number = event(&mut answers.image, order[0], order[1]);
+    }
+}
+
+/// Two images in turn: where an event is done, the next image is the one that holds.
+fn events_into_with(
+    event_into: fn(&[u8], &mut [u8], u64, u64) -> u64,
+    task: &Task,
+    answers: &mut Answers,
+) {
+    answers.image.copy_from_slice(&task.fresh);
+    for (order, number) in task.orders.chunks_exact(2).zip(&mut answers.numbers) {
+        *number = event_into(&answers.image, &mut answers.next, order[0], order[1]);
+        if *number & 255 == DONE {
+            swap(&mut answers.image, &mut answers.next);
+        }
     }
 }
 
@@ -76,6 +93,15 @@ fn all_event(task: &Task, answers: &mut Answers) -> usize {
     pointer()
 }
 
+fn all_event_into(task: &Task, answers: &mut Answers) -> usize {
+    events_into_with(event_into, task, answers);
+    each_image(task, &mut answers.image, |image| {
+        event_into(image, &mut answers.next, 0, 2);
+        event_into(image, &mut answers.next[1..], 0, 2);
+    });
+    pointer()
+}
+
 fn all_run(task: &Task, answers: &mut Answers) -> usize {
     run_with(run, task, answers);
     each_image(task, &mut answers.image, |image| {
@@ -84,49 +110,45 @@ fn all_run(task: &Task, answers: &mut Answers) -> usize {
     pointer()
 }
 
-/// A job at D = 16.
-fn job(name: &'static str, reads: bool, ours: Work, reference: Work) -> Job {
-    Job {
-        name,
-        d: 16,
-        reads,
-        ours,
-        reference,
-    }
-}
-
 fn main() -> ExitCode {
     let jobs = [
-        job(
-            "image-write-16",
+        Job::at_each_size(
+            "image-write",
             false,
             |task, answers| write_with(fresh, task, answers),
-            |task, answers| write_with(boundary::fresh, task, answers),
+            |task, answers| write_with(in_place::fresh, task, answers),
         ),
-        job(
-            "image-read-16",
+        Job::at_each_size(
+            "image-read",
             true,
             |task, answers| read_with(check, task, answers),
-            |task, answers| read_with(boundary::check, task, answers),
+            |task, answers| read_with(in_place::check, task, answers),
         ),
-        job(
-            "image-event-16",
+        Job::at_each_size(
+            "image-event",
             false,
             |task, answers| events_with(event, task, answers),
-            |task, answers| events_with(boundary::event, task, answers),
+            |task, answers| events_with(in_place::event, task, answers),
         ),
-        job(
-            "image-run-16",
+        Job::at_each_size(
+            "image-event-into",
+            false,
+            |task, answers| events_into_with(event_into, task, answers),
+            |task, answers| events_into_with(in_place::event_into, task, answers),
+        ),
+        Job::at_each_size(
+            "image-run",
             false,
             |task, answers| run_with(run, task, answers),
-            |task, answers| run_with(boundary::run, task, answers),
+            |task, answers| run_with(in_place::run, task, answers),
         ),
     ];
     let functions = [
         ("yarvelow_fresh", all_fresh as Probe),
         ("yarvelow_check", all_check),
         ("yarvelow_event", all_event),
+        ("yarvelow_event_into", all_event_into),
         ("yarvelow_run", all_run),
     ];
-    command::main(&jobs, &functions)
+    command::main(&jobs.concat(), &functions)
 }

@@ -1,8 +1,9 @@
 //! The engine by itself, over the archive of the proved crate `bench`: checked events, and events in a run with one check.
 
 use bench::command;
-use bench::job::{packed, Answers, Job, Task};
-use bench::stack::pointer;
+use bench::job::{Answers, Job, Task};
+use bench::stack::{pointer, Probe};
+use reference::packed;
 use std::process::ExitCode;
 
 /// Orders from the fresh table of `d` ports: `d`, the orders and how many numbers they are, the places for answers and how many there are.
@@ -64,32 +65,14 @@ fn all_run(task: &Task, answers: &mut Answers) -> usize {
     pointer()
 }
 
-/// Checked events at `d` ports.
-const fn checked(name: &'static str, d: u64) -> Job {
-    Job {
-        name,
-        d,
-        reads: false,
-        ours: events,
-        reference: reference_events,
-    }
-}
-
 fn main() -> ExitCode {
-    let unchecked = Job {
-        name: "run-16",
-        d: 16,
-        reads: false,
-        ours: run,
-        reference: reference_run,
-    };
-    command::main(
-        &[
-            checked("event-1", 1),
-            checked("event-4", 4),
-            checked("event-16", 16),
-            unchecked,
-        ],
-        &[("bench_events", all_events), ("bench_run", all_run)],
-    )
+    let jobs = [
+        Job::at_each_size("event", false, events, reference_events),
+        Job::at_each_size("run", false, run, reference_run),
+    ];
+    let functions = [
+        ("bench_events", all_events as Probe),
+        ("bench_run", all_run),
+    ];
+    command::main(&jobs.concat(), &functions)
 }

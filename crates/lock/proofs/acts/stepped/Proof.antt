@@ -1,5 +1,6 @@
 use borrow.Author.Needs.{needs}
-use Rattle.lock.specs.Sight.{round, steppedOn}
+use Rattle.lock.specs.Parts.{steppedOn}
+use Rattle.lock.specs.Sight.{round}
 use Rattle.lock.proofs.acts.stepped.Statement.{statement}
 use Rattle.lock.proofs.acts.stepped.Tie as tie
 

@@ -1,16 +1,17 @@
-use mathlib.Core.Path.{refl}
 use native.Mathlib.Omega.{arith}
+use borrow.Author.Tests.{lt-ltb, le-ltb}
 use Rattle.model.specs.Table.{room}
+use Rattle.model.specs.Parts.Rules.{slotOf}
 use Rattle.rules.proofs.good.slot.Statement.{statement}
 use Rattle.rules.proofs.good.slot.Tie as tie
 
 returns : tie.Need-returns
-unfolding room
-returns c = (c .if1 .taken, λ h. refl)
+unfolding slotOf room
+returns c = (rw (lt-ltb _ _ (c .if1 .taken)), c .if1 .taken)
 
 returns-2 : tie.Need-returns-2
-unfolding room
-returns-2 c = (omega arith, λ h. absurd (omega (arith, c .if1 .left)))
+unfolding slotOf room
+returns-2 c = (rw (le-ltb _ _ (c .if1 .left)), omega arith)
 
 pub slot-spec : {M : Type 1} → statement M
 slot-spec = tie.close (tie.spec returns returns-2)

@@ -1,0 +1,30 @@
+use mathlib.Core.Path.{refl}
+use native.Mathlib.Omega.{arith}
+use borrow.Author.Needs.{needs}
+use Rattle.layout.specs.Bytes.{sum}
+use Rattle.layout.specs.Layout.{headWidths}
+use Rattle.layout.specs.Places.{wordPlace}
+use Rattle.records.proofs.put_word.Statement.{statement}
+use Rattle.records.proofs.put_word.Tie as tie
+
+put-in-requires : tie.Need-put-in-requires
+unfolding sum
+put-in-requires c κs = (omega arith, refl)
+
+returns : tie.Need-returns
+unfolding headWidths sum wordPlace
+returns c = c .before .before .put-in .ensures
+
+pub put-word-spec : {M : Type 1} → statement M
+put-word-spec =
+    tie.close
+    (tie.spec
+    (λ c. search needs)
+    (λ c. search needs)
+    (λ c. search needs)
+    (λ c. search needs)
+    (λ c. search needs)
+    (λ c. search needs)
+    put-in-requires
+    (λ c. search needs)
+    returns)
