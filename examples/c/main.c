@@ -1,7 +1,7 @@
 /* A lone passage at D = 2 from C: port 0 enters, comes inside, leaves, and is idle again.
  *
- *     tools/native staticlib cabi libcabi.a
- *     cc -Iinclude examples/c/main.c libcabi.a -o lone && ./lone
+ *     tools/native staticlib cabi libyarvelow.a
+ *     cc -Iinclude examples/c/main.c libyarvelow.a -o lone && ./lone
  */
 
 #include <stdio.h>

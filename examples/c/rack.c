@@ -2,12 +2,12 @@
  * answers DONE again and again, so the others are stepped in between. One that is inside does its work, here one line and for
  * the first a crash, and leaves; it is stepped on until it is idle, since nobody else gets in before it has let go.
  *
- * Left out here: a controller makes the fresh table once, keeps the image where it outlives a restart, and begins with
- * yarvelow_check; its recorders take their time between INSIDE and LEAVE, and it does not end at a refusal. README, 'Before you
- * build on it', says what else it does.
+ * Left out here: a controller makes the fresh table once and keeps the image where it outlives a restart (restart.c does);
+ * its recorders take their time between INSIDE and LEAVE, and it does not end at a refusal. docs/CONTROLLER.md says
+ * what else it does.
  *
- *     tools/native staticlib cabi libcabi.a
- *     cc -Iinclude examples/c/rack.c libcabi.a -o rack && ./rack
+ *     tools/native staticlib cabi libyarvelow.a
+ *     cc -Iinclude examples/c/rack.c libyarvelow.a -o rack && ./rack
  */
 
 #include <stdio.h>

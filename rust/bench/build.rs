@@ -7,7 +7,7 @@ fn main() {
     let Ok(directory) = env::var("YARVELOW_LIB") else {
         return;
     };
-    for (program, archive) in [("engine", "libbench.a"), ("boundary", "libcabi.a")] {
+    for (program, archive) in [("engine", "libbench.a"), ("boundary", "libyarvelow.a")] {
         println!("cargo:rerun-if-changed={directory}/{archive}");
         println!("cargo:rustc-link-arg-bin={program}={directory}/{archive}");
     }

@@ -1,4 +1,4 @@
-//! Links the archive `libcabi.a` from the directory that YARVELOW_LIB names.
+//! Links the archive `libyarvelow.a` from the directory that YARVELOW_LIB names.
 
 use std::env;
 
@@ -6,12 +6,12 @@ fn main() {
     println!("cargo:rerun-if-env-changed=YARVELOW_LIB");
     match env::var("YARVELOW_LIB") {
         Ok(directory) => {
-            println!("cargo:rerun-if-changed={directory}/libcabi.a");
+            println!("cargo:rerun-if-changed={directory}/libyarvelow.a");
             println!("cargo:rustc-link-search=native={directory}");
-            println!("cargo:rustc-link-lib=static=cabi");
+            println!("cargo:rustc-link-lib=static=yarvelow");
         }
         Err(_) => println!(
-            "cargo:warning=YARVELOW_LIB is not set: nothing links without the directory of libcabi.a"
+            "cargo:warning=YARVELOW_LIB is not set: nothing links without the directory of libyarvelow.a"
         ),
     }
 }

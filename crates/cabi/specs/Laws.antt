@@ -7,3 +7,4 @@ pub mod Acting
 pub mod Calling
 pub mod Running
 pub mod Fresh
+pub mod Rack

@@ -1,21 +1,23 @@
 -- What is proved of the calls, for a reader who knows the definitions in Calls and no proof.
 use mathlib.Core.Path.{_≡_, refl, sym}
 use mathlib.Core.Bool.{true}
-use mathlib.Core.List.{List}
-use Prim.Native.Nat.{ℕ}
+use mathlib.Core.List.{List, [], _∷_, _++_}
+use Prim.Native.Nat.{ℕ, _+_, _*_, _≤_, _<_}
 use borrow.Author.Tests.{ne-eqb}
-use lib.ListN.{length, take, drop}
+use lib.ListN.{length, getD, take, drop}
 use Rattle.model.specs.declared.Table.{Table}
-use Rattle.model.specs.Table.{Sized}
+use Rattle.model.specs.Table.{room, Sized, freshTable}
 use Rattle.model.specs.Good.{good}
-use Rattle.model.specs.Event.{numberOf}
-use Rattle.model.specs.Run.{Order, ran, codes}
+use Rattle.model.specs.Event.{numberOf, stepping, crash}
+use Rattle.model.specs.Run.{Order, order, ran, codes, stepless}
 use Rattle.model.specs.Statements.{one}
 use Rattle.layout.specs.Bytes.{Bytes}
+use Rattle.layout.specs.Layout.{size}
 use Rattle.image.specs.Image.{encode, roomAfter}
 use Rattle.cabi.specs.Calls.{freshCall, freshRoom, checkCall, eventOn, eventCall, eventImage, intoOn, intoCall, intoNext, calls, callsImage, runPlaces}
 use Rattle.cabi.specs.Laws.Calling.{event-unread, calls-run, into-begins}
 use Rattle.cabi.specs.Laws.Running.{run-unread}
+use Rattle.cabi.specs.Laws.Rack.{fresh-image, accepted-reached, inside-bytes, critical-bytes, back-bytes}
 
 -- Two results that meet a promise are equal, and so are two contents of each buffer
 pub fresh-one : (d n : ℕ) (r s : ℕ) → r ≡ freshCall d n → s ≡ freshCall d n → r ≡ s
@@ -74,3 +76,37 @@ into-next image next k e f d = into-begins image next k e d f
 pub calls-are-events : (t : Table) (os : List Order) → Sized t → good t ≡ true
     → (calls (encode t) os ≡ codes t os) × (callsImage (encode t) os ≡ encode (ran t os))
 calls-are-events = calls-run
+
+-- From here on: for D from 1 to the room. `yarvelow_fresh` writes the image of the fresh table at the start of a room that it fits into
+module _ (d : ℕ) (some : 1 ≤ d) (fits : d ≤ room) where
+  pub fresh-writes : (out : List ℕ) → size d ≤ length out
+      → (freshCall d (length out) ≡ 256 * size d)
+      × (take (size d) (freshRoom d out) ≡ encode (freshTable d))
+      × (drop (size d) (freshRoom d out) ≡ drop (size d) out)
+  fresh-writes out h = fresh-image d some fits out h
+
+  -- Over any calls from there: a run leaves the image of as many events (its contract), so all calls of `yarvelow_event` and `yarvelow_run` are one list of
+  -- orders. The image is always accepted
+  pub always-accepted : (os : List Order) → checkCall (callsImage (encode (freshTable d)) os) ≡ 0
+  always-accepted = accepted-reached d some fits
+
+  -- Demand 3, in the bytes of the image: two ports whose point, byte 26 + 16 k of port k, is 11 are the same port
+  pub one-inside-bytes : (os : List Order) (j k : ℕ) → j < d → k < d
+      → getD (callsImage (encode (freshTable d)) os) (26 + 16 * j) 0 ≡ 11
+      → getD (callsImage (encode (freshTable d)) os) (26 + 16 * k) 0 ≡ 11
+      → j ≡ k
+  one-inside-bytes = inside-bytes d some fits
+
+  -- a port whose STATUS, byte 27 + 16 k, is 1, the critical status, keeps it under every call but a step of its own while its point is 13
+  pub keeps-bytes : (os : List Order) (k : ℕ) (o : Order) → k < d
+      → getD (callsImage (encode (freshTable d)) os) (27 + 16 * k) 0 ≡ 1
+      → (o .port ≡ k → o .event ≡ stepping → getD (callsImage (encode (freshTable d)) os) (26 + 16 * k) 0 ≡ 13 → ⊥)
+      → getD (callsImage (encode (freshTable d)) (os ++ (o ∷ []))) (27 + 16 * k) 0 ≡ 1
+  keeps-bytes = critical-bytes d some fits
+
+  -- and after a crash, and whatever calls follow that are no step of its own, its next step puts it at point 11
+  pub returns-bytes : (os : List Order) (k : ℕ) (more : List Order) → k < d
+      → getD (callsImage (encode (freshTable d)) os) (27 + 16 * k) 0 ≡ 1
+      → stepless k more ≡ true
+      → getD (callsImage (encode (freshTable d)) (os ++ (order k crash ∷ (more ++ (order k stepping ∷ []))))) (26 + 16 * k) 0 ≡ 11
+  returns-bytes = back-bytes d some fits

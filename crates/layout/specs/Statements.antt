@@ -1,8 +1,9 @@
 -- What is proved of the layout. Two results that meet the promise of a function of this crate are equal: each promise gives one value at every argument.
 use mathlib.Core.Path.{_≡_}
-use mathlib.Core.List.{List}
-use Prim.Native.Nat.{ℕ, _+_, _*_}
-use native.Mathlib.Omega.{arith}
+use mathlib.Core.List.{List, [], _∷_}
+use Prim.Native.Nat.{ℕ, _+_, _*_, _≤_, _<_}
+use native.Mathlib.Nat.{mul-comm}
+use borrow.Author.Tests.{le-leb, lt-leb}
 use Rattle.model.specs.declared.Cell.{Cell}
 use Rattle.model.specs.declared.Port.{Port}
 use Rattle.model.specs.declared.Copies.{Copies}
@@ -10,7 +11,7 @@ use Rattle.model.specs.declared.Shared.{Shared}
 use Rattle.model.specs.Statements.{one}
 use Rattle.layout.specs.Bytes.{sum, pack, unpack}
 use Rattle.layout.specs.Places.{setPlace}
-use Rattle.layout.specs.Layout.{headWidths, sharedWidths, portWidths, copiedWidths, copiesWidths, sharedValues, portValues, copiedValues, copiesValues, sharedOf, portOf, copiesOf, headValues, portPlace, copiesPlace, size}
+use Rattle.layout.specs.Layout.{headWidths, sharedWidths, portWidths, setWidth, copiedWidths, copiesWidths, version, sharedValues, portValues, copiedValues, copiesValues, sharedOf, portOf, copiesOf, headValues, portPlace, copiesPlace, size}
 
 pub shared-values-one : (x : Shared) (r s : List ℕ) → r ≡ sharedValues x → s ≡ sharedValues x → r ≡ s
 shared-values-one x r s = one
@@ -49,9 +50,13 @@ set-place-one c d j r s = one
 pub size-one : (d r s : ℕ) → r ≡ size d → s ≡ size d → r ≡ s
 size-one d r s = one
 
--- The bodies follow one another without gaps: each starts where the one before it ends, and the last ends the image
-pub without-gaps : (d : ℕ) → (portPlace 0 ≡ sum headWidths + sum sharedWidths)
-    × (portPlace d ≡ portPlace 0 + d * sum portWidths)
-    × (size d ≡ portPlace d + (sum (copiedWidths d) + d * sum (copiesWidths d)))
-unfolding sum headWidths sharedWidths portWidths copiedWidths copiesWidths portPlace copiesPlace size
-without-gaps d = (omega arith, omega arith, omega arith)
+-- The head as numbers (document 01, 'The image'): version and D, then start and length of each body: shared from byte 14 (12 bytes), ports from byte 26 (16 bytes
+-- each), copies straight after the last port. To D = 16 a copy set takes two bytes: 2 + 2, then 6 for each port
+pub narrow-head : (d : ℕ) → d ≤ 16 → headValues d ≡ 1 ∷ d ∷ 14 ∷ 12 ∷ 26 ∷ 16 * d ∷ (26 + 16 * d) ∷ (4 + 6 * d) ∷ []
+unfolding sum headWidths sharedWidths portWidths setWidth copiedWidths copiesWidths portPlace version headValues
+narrow-head d h = rw (le-leb d 16 h, mul-comm d 16, mul-comm d 6)
+
+-- R-1: above 16 the version is 2, and a copy set takes eight bytes: 8 + 8, then 24 for each port
+pub wide-head : (d : ℕ) → 16 < d → headValues d ≡ 2 ∷ d ∷ 14 ∷ 12 ∷ 26 ∷ 16 * d ∷ (26 + 16 * d) ∷ (16 + 24 * d) ∷ []
+unfolding sum headWidths sharedWidths portWidths setWidth copiedWidths copiesWidths portPlace version headValues
+wide-head d h = rw (lt-leb d 16 h, mul-comm d 16, mul-comm d 24)

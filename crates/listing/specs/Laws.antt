@@ -3,4 +3,5 @@ pub mod Ordering
 pub mod Taking
 pub mod Pieces
 pub mod End
+pub mod Took
 pub mod Compute

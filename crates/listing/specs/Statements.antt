@@ -18,12 +18,19 @@ use Rattle.lines.specs.Reading.{live}
 use Rattle.listing.specs.Feed.{feeding, starting, ended}
 use Rattle.listing.specs.Chain.{Prints}
 use Rattle.listing.specs.Laws.Taking.{takes, writes}
-use Rattle.listing.specs.Laws.End.{from-start}
+use Rattle.listing.specs.Laws.End.{from-start, by-bytes, listing-printed}
 
 -- Whatever the pieces in which an input arrives, and whatever the rooms that are lent for the text, a run from the start prints the input's listing.
 -- (The line number has 64 bits. An input of 2 ^ 64 bytes, for which it could be too small, takes longer than the machine lasts.)
 pub in-pieces : (input text : List ℕ) → length input < 2 ^ 64 → Prints starting input text → text ≡ listing input
 in-pieces input text h p = from-start p h
+
+-- That can be met: for any input there is a chain of calls that prints some text, and so one that prints the listing
+pub some-chain : (input : List ℕ) → (text : List ℕ) × Prints starting input text
+some-chain = by-bytes starting
+
+pub prints-listing : (input : List ℕ) → length input < 2 ^ 64 → Prints starting input (listing input)
+prints-listing = listing-printed
 
 -- Every call gets on: while a run is not at its end, a piece that is not empty and a room for the longest line see a byte taken
 pub gets-on : (room : ℕ) (r : Run) (b : ℕ) (bs : List ℕ) → longest ≤ room → live (r .stage) ≡ true

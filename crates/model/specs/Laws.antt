@@ -6,6 +6,7 @@ pub mod Mask
 pub mod Ring
 pub mod Rules
 pub mod Own
+pub mod Points
 pub mod Stepped
 pub mod Cases
 pub mod Grants

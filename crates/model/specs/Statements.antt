@@ -11,14 +11,15 @@ use Rattle.model.specs.declared.Made.{Made}
 use Rattle.model.specs.Table.{room, Sized, portAt, freshTable}
 use Rattle.model.specs.Mask.{stands, joined, alone, added}
 use Rattle.model.specs.Ring.{next, distance}
-use Rattle.model.specs.Points.{p11, pointOf}
-use Rattle.model.specs.Good.{good}
+use Rattle.model.specs.Points.{none, p11, pointOf}
+use Rattle.model.specs.Good.{named, good}
 use Rattle.model.specs.Cost.{free}
 use Rattle.model.specs.Event.{numberOf, enter, stepping, crash, event, fresh}
 use Rattle.model.specs.Run.{Order, order, after, ran, reached, Critical, run, runAnswers, done, stepsAt, passedOver, passageCost, stepless}
 use Rattle.model.specs.Paid.{paidEvent}
 use Rattle.model.specs.Laws.Mask.{set-own, set-other, cleared-own, cleared-other, joined-own, joined-other, alone-own, alone-other}
 use Rattle.model.specs.Laws.Ring.{distance-own, distance-le, next-stands, next-nearest}
+use Rattle.model.specs.Laws.Points.{unnamed, named-point}
 use Rattle.model.specs.Laws.Cases.{refused-free, orders-free}
 use Rattle.model.specs.Laws.After.{fresh-sized}
 use Rattle.model.specs.Laws.Kept.{good-fresh, good-after, good-ran, room-fits}
@@ -65,6 +66,11 @@ refused-nothing = refused-free
 -- 'Only S costs anything'
 pub only-steps-cost : (t : Table) (k e : ℕ) → (e ≡ stepping → ⊥) → (event t k e .cached ≡ 0) × (event t k e .distributed ≡ 0)
 only-steps-cost = orders-free
+
+-- 'Points .. are among those named here': the numbers that a good table allows are exactly those that stand for a point, so good tables and the steps go by
+-- the same points
+pub points-named : (n : ℕ) → (named n ≡ false → pointOf n ≡ none) × (named n ≡ true → pointOf n ≡ none → ⊥)
+points-named n = (unnamed n, named-point n)
 
 -- 'Next(o, a) is the first port after o whose bit stands in a, counted upward and round the ring, o itself last': it is a port of the set, and no port
 -- of the set lies nearer after o

@@ -7,8 +7,24 @@ use lines::reading;
 use listing::Run;
 use listing::runs;
 use text::LONGEST;
-ghost use Prim.Native.Nat.{_≤_};
-ghost use lib.ListN.{length};
+ghost use mathlib.Core.Path.{_≡_};
+ghost use mathlib.Core.Bool.{true};
+ghost use Prim.Native.Nat.{_≤_, _<_};
+ghost use lib.ListN.{length, drop};
+ghost use Rattle.listing.specs.Laws.Took.{took};
+
+// The run after a piece of input, and whether all that it printed was written.
+struct Turn {
+    run: Run,
+    written: bool,
+}
+
+// What the run took of a piece, and whether what it printed was written.
+struct Taken {
+    run: Run,
+    taken: usize,
+    written: bool,
+}
 
 // What follows a piece of input: another, the end of the input, or nothing, where the run is at its end or a call failed.
 enum Next {
@@ -17,17 +33,9 @@ enum Next {
     Nothing,
 }
 
-// The run after a piece of input, and what follows.
-struct Turn {
+struct Read {
     run: Run,
     next: Next,
-}
-
-// What the run took of a piece, and whether what it printed was written.
-struct Taken {
-    run: Run,
-    taken: usize,
-    written: bool,
 }
 
 // Writes all of a text to standard output, or says that it cannot.
@@ -39,9 +47,11 @@ fn write(text: &[u8]) -> bool {
     written
 }
 
-// Feeds the run once, and writes what it printed.
+// Feeds the run once, and writes what it printed. What is left of the piece is still to be taken; a run that takes nothing is at its end.
 fn feed(run: Run, piece: &[u8]) -> Taken
     ensures { λ r. ⌜ r .taken ≤ length (now (piece .entry)) ⌝ }
+    ensures { λ r. ⌜ took run (now (piece .entry)) ≡ took (r .run) (drop (r .taken) (now (piece .entry))) ⌝ }
+    ensures { λ r. ⌜ (0 < length (now (piece .entry)) → r .taken ≡ 0 → took run (now (piece .entry)) ≡ r .run) ⌝ }
 {
     let mut out = io::large_buffer();
     let fed = runs::feed(run, piece, &mut out);
@@ -55,8 +65,10 @@ fn feed(run: Run, piece: &[u8]) -> Taken
     }
 }
 
-// Feeds the run until the piece is used up. A run at its end waits for no more input.
-fn feed_all(run: Run, piece: &[u8]) -> Turn {
+// Feeds the run until the piece is used up or the run is at its end: it has then taken every byte of the piece that it takes.
+fn feed_all(run: Run, piece: &[u8]) -> Turn
+    ensures { λ r. ⌜ (r .written ≡ true → r .run ≡ took run (now (piece .entry))) ⌝ }
+{
     let mut now = run;
     let mut at: usize = 0;
     while at < piece.len() {
@@ -64,52 +76,57 @@ fn feed_all(run: Run, piece: &[u8]) -> Turn {
         let after = c.run;
         let n = c.taken;
         now = after;
-        if n == 0 {
-            return Turn {
-                run: now,
-                next: Next::Nothing,
-            };
-        }
         if !c.written {
             return Turn {
                 run: now,
-                next: Next::Nothing,
+                written: false,
+            };
+        }
+        if n == 0 {
+            return Turn {
+                run: now,
+                written: true,
             };
         }
         at += n;
     }
-    let stage = now.stage;
-    if reading::live(stage) {
-        return Turn {
-            run: now,
-            next: Next::Piece,
-        };
-    }
     Turn {
         run: now,
-        next: Next::Nothing,
+        written: true,
     }
 }
 
-// Reads a piece and passes it on.
-fn take_piece(run: Run) -> Turn {
+// Reads a piece and passes it on. A run at its end waits for no more input.
+fn take_piece(run: Run) -> Read {
     let mut input = io::large_buffer();
     let got = libc::read(STDIN_FILENO, &mut input);
     if got < 0 {
         io::write_all(STDERR_FILENO, b"schedule: cannot read\n");
-        return Turn {
+        return Read {
             run,
             next: Next::Nothing,
         };
     }
     if got == 0 {
-        return Turn {
+        return Read {
             run,
             next: Next::End,
         };
     }
     let n = io::count(got, &input);
-    feed_all(run, &input[..n])
+    let t = feed_all(run, &input[..n]);
+    let after = t.run;
+    let stage = after.stage;
+    if t.written & reading::live(stage) {
+        return Read {
+            run: after,
+            next: Next::Piece,
+        };
+    }
+    Read {
+        run: after,
+        next: Next::Nothing,
+    }
 }
 
 // Writes what the end of the input prints.

@@ -2,8 +2,9 @@
 //! so the others are stepped in between. One that is inside does its work, here one line and for the first a crash, and leaves; it is stepped on until it is idle, since
 //! nobody else gets in before it has let go.
 //!
-//! Left out here: a controller makes the fresh table once, keeps the image where it outlives a restart, and begins with `Lock::open`, which checks it; its
-//! recorders take their time between `Inside` and `Leave`, and it does not end at a refusal. README, 'Before you build on it', says what else it does.
+//! Left out here: a controller makes the fresh table once and keeps the image where it outlives a restart (`restart.rs`
+//! does); its recorders take their time between `Inside` and `Leave`, and it does not end at a refusal. README, 'Before you
+//! build on it', says what else it does.
 
 use yarvelow::{left_behind, made_place, point_place, status_place, Event, Lock, Refusal};
 

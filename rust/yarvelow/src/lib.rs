@@ -1,6 +1,6 @@
 //! The lock engine of document 01 from Rust: the table of one lock with D ports, up to 64, kept as an image in memory.
 //!
-//! The engine is proved; it comes as the archive `libcabi.a`, and the environment variable `YARVELOW_LIB` names the archive's directory when this crate is
+//! The engine is proved; it comes as the archive `libyarvelow.a`, and the environment variable `YARVELOW_LIB` names the archive's directory when this crate is
 //! built. A [`Lock`] holds an image of a good table, in bytes of its own or in lent ones that outlive a restart. The
 //! functions [`fresh`], [`check`], [`event`], [`event_into`] and [`run`] work on plain buffers.
 //!
@@ -154,8 +154,8 @@ pub struct Order {
     pub event: Event,
 }
 
-/// Writes the image of a fresh table of `d` ports at the start of `room` and gives its length.
-/// Refused (`BadSize`, then `ShortRoom`), every byte stays.
+/// Writes the image of a fresh table of `d` ports at the start of `room`, which is [`image_length`] of `d` or longer, and
+/// gives its length. Refused (`BadSize`, then `ShortRoom`), every byte stays.
 ///
 /// ```
 /// use yarvelow::{fresh, Refusal, LONGEST};
@@ -170,8 +170,8 @@ pub fn fresh(d: u64, room: &mut [u8]) -> Result<usize, Refusal> {
     done(answer).map(|()| (answer >> 8) as usize)
 }
 
-/// Looks whether bytes are an image of a good table, and so can be used; not whether they were changed since they were written.
-/// An image has exactly the length of its D, here and in all that follows.
+/// Looks whether bytes are an image of a good table, and so can be used; not whether they were changed since they were
+/// written. They are exactly [`image_length`] of its D, else `BadImage`.
 ///
 /// ```
 /// use yarvelow::{check, fresh, Refusal, LONGEST};
@@ -185,8 +185,8 @@ pub fn check(image: &[u8]) -> Result<(), Refusal> {
     done(sys::check(image))
 }
 
-/// Carries out an event on an image where it stands, after looking at the image.
-/// Refused, for the image first and then for the event, every byte stays.
+/// Carries out an event on an image where it stands, after looking at the image, which is exactly [`image_length`] of its D,
+/// else `BadImage`. Refused, for the image first and then for the event, every byte stays.
 ///
 /// Done, it writes only the 16 bytes of the port's record, from its [`point_place`] on, and where the event is a step: from 6
 /// and 15 ACTIVE, 8 bytes at 14; from 17, 23, 33 and 43 the word, 4 bytes at [`TAKEN_PLACE`]; the copy set of the word that
@@ -208,7 +208,8 @@ pub fn event(image: &mut [u8], port: u64, event: Event) -> Result<Costs, Refusal
 }
 
 /// Carries out an event as [`event`] does, but only reads `image` and puts the image after the event at the start of `next`.
-/// Refused, for the image, then for the event, then as `ShortRoom`, every byte of `next` stays; done, those after the image.
+/// `image` is exactly [`image_length`] of its D, else `BadImage`; `next` is that or longer, else `ShortRoom`. Refused, for
+/// the image, then for the event, then as `ShortRoom`, every byte of `next` stays; done, those after the image.
 ///
 /// With two images and a byte that says which one holds, a controller that is cut off never harms the one that holds:
 ///
@@ -243,8 +244,9 @@ pub fn event_into(
 }
 
 /// Carries out events one after the other on an image, with one look at it: much faster than as many calls of [`event`],
-/// and the same in the end. `answers[i]` becomes the answer to `orders[i]`; the shorter of the two lists decides how many are carried out.
-/// Refused (`BadImage`, `BadTable`), every byte and every answer stays.
+/// and the same in the end. `answers[i]` becomes the answer to `orders[i]`; the shorter of the two lists decides how many
+/// are carried out. `image` is exactly [`image_length`] of its D, else `BadImage`. Refused (`BadImage`, `BadTable`), every
+/// byte and every answer stays.
 ///
 /// ```
 /// use yarvelow::{fresh, run, Answer, Costs, Event, Order, Refusal, LONGEST};

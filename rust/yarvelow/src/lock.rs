@@ -69,7 +69,7 @@ impl<'a> Lock<'a> {
     }
 
     /// The lock of an image: bytes that were kept, or that a controller finds after a restart. They are looked at:
-    /// `BadImage` or `BadTable` if they are no image of a good table.
+    /// `BadImage` or `BadTable` if they are no image of a good table, and exactly as long as it.
     ///
     /// ```
     /// use yarvelow::{Event, Image, Lock, Refusal};

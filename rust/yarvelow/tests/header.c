@@ -1,4 +1,5 @@
-/* The header held against the archive: lengths at every D, places, the parts of an answer, and two images in turn. */
+/* The header's functions called from C, with its names for events and answers: each number brought about, lengths at
+ * every D, two images in turn, a run. compare/tests/header holds the numbers, macros and inline functions. */
 
 #include <stdio.h>
 #include <stdlib.h>
@@ -50,15 +51,70 @@ static void two_images(uint64_t d) {
     must(image[YARVELOW_POINT(port)] == 11 && image[YARVELOW_STATUS(port)] == 1, "point and STATUS", d);
     must(image[YARVELOW_MADE(port)] == 1 && image[YARVELOW_GO(port)] == 1, "spins made and GO", d);
     must(image[YARVELOW_TAKEN] == 1 && image[YARVELOW_OWNER] == port && image[YARVELOW_SPIN] == 1, "the word", d);
-    must(!yarvelow_left_behind(image), "the word is not left behind", d);
+}
+
+/* What an event answers, by its number alone. */
+static void answers(uint8_t *image, uint64_t port, uint64_t event, enum yarvelow_number number, const char *what) {
+    must(yarvelow_number_of(yarvelow_event(image, YARVELOW_IMAGE(2), port, event)) == number, what, 2);
+}
+
+/* Every event as it should be carried out, and every refusal. */
+static void numbers(void) {
+    uint8_t image[YARVELOW_IMAGE(2)];
+    must(yarvelow_fresh(0, image, sizeof image) == YARVELOW_BAD_SIZE, "no ports", 0);
+    must(yarvelow_fresh(2, image, sizeof image - 1) == YARVELOW_SHORT_ROOM, "a short room", 2);
+    yarvelow_fresh(2, image, sizeof image);
+    answers(image, 2, YARVELOW_ENTER, YARVELOW_NO_SUCH_PORT, "port 2 of 2");
+    answers(image, 0, 0, YARVELOW_NO_SUCH_EVENT, "event 0");
+    answers(image, 0, YARVELOW_LEAVE + 1, YARVELOW_NO_SUCH_EVENT, "an event after the last");
+    answers(image, 0, YARVELOW_STEP, YARVELOW_IDLE, "a step of an idle port");
+    answers(image, 0, YARVELOW_CRASH, YARVELOW_IDLE, "a crash of an idle port");
+    answers(image, 0, YARVELOW_CALL_OFF, YARVELOW_IDLE, "a call-off of an idle port");
+    answers(image, 0, YARVELOW_LEAVE, YARVELOW_NOT_INSIDE, "an idle port leaves");
+    answers(image, 0, YARVELOW_ENTER, YARVELOW_DONE, "an idle port enters");
+    answers(image, 0, YARVELOW_ENTER, YARVELOW_BUSY, "a busy port enters");
+    must(image[YARVELOW_POINT(0)] == 1, "the point after an enter", 2);
+    answers(image, 0, YARVELOW_STEP, YARVELOW_DONE, "a step");
+    must(image[YARVELOW_POINT(0)] == 2, "the point after a step", 2);
+    answers(image, 0, YARVELOW_CRASH, YARVELOW_DONE, "a crash");
+    must(image[YARVELOW_POINT(0)] == 1, "the point after a crash", 2);
+    while (image[YARVELOW_POINT(0)] != 11) {
+        answers(image, 0, YARVELOW_STEP, YARVELOW_DONE, "a step on the way in");
+    }
+    answers(image, 0, YARVELOW_STEP, YARVELOW_INSIDE, "a step inside");
+    answers(image, 1, YARVELOW_ENTER, YARVELOW_DONE, "another enters");
+    answers(image, 1, YARVELOW_CALL_OFF, YARVELOW_DONE, "a call-off");
+    while (image[YARVELOW_POINT(1)] != 0) {
+        answers(image, 1, YARVELOW_STEP, YARVELOW_DONE, "a step home");
+    }
+    answers(image, 0, YARVELOW_LEAVE, YARVELOW_DONE, "a port leaves");
+    must(image[YARVELOW_POINT(0)] == 13, "the point after a leave", 2);
+    image[YARVELOW_MADE(1)] = image[YARVELOW_MADE(1) + 1] = 255;
+    answers(image, 1, YARVELOW_ENTER, YARVELOW_WORN, "all spins made");
+    image[YARVELOW_STATUS(1)] = 4;
+    must(yarvelow_check(image, sizeof image) == YARVELOW_BAD_TABLE, "no such STATUS", 2);
+    must(yarvelow_check(image, 0) == YARVELOW_BAD_IMAGE, "no bytes", 2);
+}
+
+/* A run answers what its events do. */
+static void a_run(void) {
+    uint8_t image[YARVELOW_IMAGE(17)], one[YARVELOW_IMAGE(17)];
+    uint64_t orders[] = {16, YARVELOW_ENTER, 16, YARVELOW_STEP, 0, YARVELOW_LEAVE, 17, YARVELOW_STEP}, told[4];
+    yarvelow_fresh(17, image, sizeof image);
+    memcpy(one, image, sizeof image);
+    must(yarvelow_run(image, sizeof image, orders, 8, told, 4) == YARVELOW_DONE, "a run", 17);
+    for (int i = 0; i < 4; i++) {
+        must(told[i] == yarvelow_event(one, sizeof one, orders[2 * i], orders[2 * i + 1]), "an answer of a run", 17);
+    }
+    must(memcmp(one, image, sizeof image) == 0, "the image after a run", 17);
 }
 
 int main(void) {
+    numbers();
+    a_run();
     lengths();
     for (uint64_t d = 1; d <= YARVELOW_PORTS; d++) {
         two_images(d);
     }
-    /* What stands above the parts of an answer is no part of them. */
-    must(yarvelow_distributed_of(0xFF0203FF) == 2 && yarvelow_cached_of(0xFF0203FF) == 3, "the parts of an answer", 0);
     return 0;
 }

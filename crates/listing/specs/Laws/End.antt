@@ -1,5 +1,5 @@
--- What the end of an input prints, and with it every chain of calls: the listing.
-use mathlib.Core.Path.{_≡_, refl, sym, ap, _∙_}
+-- What the end of an input prints, and with it every chain of calls: the listing. And there is such a chain: byte by byte.
+use mathlib.Core.Path.{_≡_, refl, sym, subst, ap, _∙_}
 use mathlib.Core.Bool.{Bool, true, false, cond, true≢false}
 use mathlib.Core.List.{List, [], _∷_, _++_, append-nil}
 use Prim.Native.Nat.{ℕ, _+_, _<_}
@@ -12,10 +12,10 @@ use Rattle.lines.specs.declared.Stage.{Stage}
 use Rattle.lines.specs.declared.Stage.the-variants.{Opening, Running, Over}
 use Rattle.listing.specs.declared.Run.{Run}
 use Rattle.lines.specs.Line.{lines}
-use Rattle.text.specs.Text.{bad}
+use Rattle.text.specs.Text.{longest, bad}
 use Rattle.listing.specs.Listing.{listed, opened, listing}
-use Rattle.lines.specs.Reading.{cutOff, live}
-use Rattle.listing.specs.Feed.{feeding, ended, starting}
+use Rattle.lines.specs.Reading.{act, cutOff, live}
+use Rattle.listing.specs.Feed.{acted, feeding, ended, starting}
 use Rattle.listing.specs.Chain.{Prints, finished, over, fed}
 use Rattle.lines.specs.Laws.Lines.{Clear}
 use Rattle.lines.specs.Laws.Told.{shown, bytesOf, Fair}
@@ -82,3 +82,19 @@ chain {r} {input} {text} (fed room piece more later e p c) y h =
 pub from-start : {input text : List ℕ} → Prints starting input text → length input < 18446744073709551616 → text ≡ listing input
 unfolding starting listing
 from-start {input} {text} c h = chain c (record { fair = tt; first = refl; sure = sure-fresh 1 }) (omega (arith, h))
+
+-- from any run, calls on single bytes with room for a line each, up to the end of the input or of the run
+pub by-bytes : (r : Run) (input : List ℕ) → (text : List ℕ) × Prints r input text
+unfolding feeding
+by-bytes r [] = (ended r, finished refl refl)
+by-bytes r (b ∷ bs) = go (live (r .stage)) refl (by-bytes (acted r (act (r .stage) (r .part) b) .0) bs)
+  where
+    go : (v : Bool) → live (r .stage) ≡ v → (text : List ℕ) × Prints (acted r (act (r .stage) (r .part) b) .0) bs text
+        → (text : List ℕ) × Prints r (b ∷ bs) text
+    go true e q = (feeding longest r (b ∷ []) .1 ++ q .0, fed {r = r} longest (b ∷ []) bs (q .0) refl refl (rw e (q .1)))
+    go false e q = ([], over e refl)
+
+pub listing-printed : (input : List ℕ) → length input < 18446744073709551616 → Prints starting input (listing input)
+listing-printed input h =
+    let c = by-bytes starting input in
+    subst (λ (text : List ℕ). Prints starting input text) (from-start (c .1) h) (c .1)
