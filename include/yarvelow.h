@@ -7,7 +7,8 @@
  * stops, may leave the image that it writes half written; yarvelow_event_into never writes the one that holds
  * (examples/c/restart.c).
  *
- * An answer carries a number in its lowest eight bits: 0 when done, else why it was refused. */
+ * An answer carries a number in its lowest eight bits: 0 when done, else why it was refused. Other parts stand above
+ * it, so ask for the number by yarvelow_number_of. */
 
 #ifndef YARVELOW_H
 #define YARVELOW_H
@@ -53,7 +54,8 @@ enum yarvelow_order {
 /* Numbers of an answer. */
 enum yarvelow_number {
     YARVELOW_DONE = 0,
-    YARVELOW_BAD_TABLE = 1,     /* an image by its form, of a table that breaks a rule of document 01 */
+    YARVELOW_BAD_TABLE = 1,     /* an image by its form, of a table that breaks a rule of document 01; the answer also
+                                   says what is bad: yarvelow_kind_of, yarvelow_port_of and yarvelow_place_of */
     YARVELOW_NO_SUCH_PORT = 2,  /* port at or above D */
     YARVELOW_NO_SUCH_EVENT = 3, /* event not 1 to 5 */
     YARVELOW_BUSY = 4,          /* enter, and the port isn't idle */
@@ -67,12 +69,34 @@ enum yarvelow_number {
     YARVELOW_BAD_IMAGE = 11     /* no image: its length is not just that of its D, or its first 14 bytes are wrong */
 };
 
-/* The parts of an answer: the number; of yarvelow_fresh, the image's length; of an event, both costs. What a later
- * version puts above the costs is no part of them. */
+/* The parts of an answer; those that it doesn't have are 0. The number; where yarvelow_fresh is done, the image's
+ * length; where an event is done, both costs. What a later version puts above the costs is no part of them. */
 static inline unsigned yarvelow_number_of(uint64_t answer) { return (unsigned)(answer & 255); }
-static inline size_t yarvelow_length_of(uint64_t answer) { return (size_t)(answer >> 8); }
-static inline unsigned yarvelow_cached_of(uint64_t answer) { return (unsigned)(answer >> 8 & 255); }
-static inline unsigned yarvelow_distributed_of(uint64_t answer) { return (unsigned)(answer >> 16 & 255); }
+static inline size_t yarvelow_length_of(uint64_t answer) {
+    return yarvelow_number_of(answer) == YARVELOW_DONE ? (size_t)(answer >> 8) : 0;
+}
+static inline unsigned yarvelow_cached_of(uint64_t answer) {
+    return yarvelow_number_of(answer) == YARVELOW_DONE ? (unsigned)(answer >> 8 & 255) : 0;
+}
+static inline unsigned yarvelow_distributed_of(uint64_t answer) {
+    return yarvelow_number_of(answer) == YARVELOW_DONE ? (unsigned)(answer >> 16 & 255) : 0;
+}
+
+/* Of BAD_TABLE, what is bad: where several fields are, the one with the lowest place. A rule over several fields is
+ * charged to the last of them in the image. ./inspect says it with the field's name.
+ * The kind: 1 what all share, ACTIVE and the word; 2 a port, what it keeps over a crash; 3 a working value of a port;
+ * 4 a copy set. 0, the table as a whole, is said of no image: one with such a D is a BAD_IMAGE.
+ * The port that the field belongs to: D for kind 1, and of kind 4 for the copy sets of ACTIVE and the word.
+ * The place: the byte of the image that was lent where the field begins. */
+static inline unsigned yarvelow_kind_of(uint64_t answer) {
+    return yarvelow_number_of(answer) == YARVELOW_BAD_TABLE ? (unsigned)(answer >> 8 & 255) : 0;
+}
+static inline unsigned yarvelow_port_of(uint64_t answer) {
+    return yarvelow_number_of(answer) == YARVELOW_BAD_TABLE ? (unsigned)(answer >> 16 & 255) : 0;
+}
+static inline size_t yarvelow_place_of(uint64_t answer) {
+    return yarvelow_number_of(answer) == YARVELOW_BAD_TABLE ? (size_t)(answer >> 24 & 65535) : 0;
+}
 
 /* Whether the lock word of a good image was left naming a port that will not come (docs/STUCK.md): it is taken, and
  * its owner is at point 0 or its spin is not the owner's GO. Nobody is inside then, and nobody gets in. */
@@ -88,12 +112,13 @@ static inline int yarvelow_left_behind(const uint8_t *image) {
 uint64_t yarvelow_fresh(uint64_t d, uint8_t *room, size_t length);
 
 /* Looks whether bytes are an image of a good table, and so can be used; not whether they were changed since they
- * were written. length is exactly YARVELOW_IMAGE(d), else BAD_IMAGE. Answers DONE, BAD_IMAGE, or BAD_TABLE. */
+ * were written. length is exactly YARVELOW_IMAGE(d), else BAD_IMAGE. Answers DONE, BAD_IMAGE, or BAD_TABLE with what
+ * is bad. */
 uint64_t yarvelow_check(const uint8_t *image, size_t length);
 
 /* Carries out one event on an image where it stands. length is exactly YARVELOW_IMAGE(d), else BAD_IMAGE. Answers
- * number + 256 * cached cost + 65536 * distributed cost. Refused, for the image first (BAD_IMAGE, BAD_TABLE), then
- * for the event (the lowest number that applies), it costs nothing and writes nothing.
+ * number + 256 * cached cost + 65536 * distributed cost. Refused, for the image first (BAD_IMAGE, BAD_TABLE with what
+ * is bad), then for the event (the lowest number that applies), it costs nothing and writes nothing.
  *
  * Done, it writes only the port's record, 16 bytes at YARVELOW_POINT(port), and where the event is a step:
  *   from 6 and 15            ACTIVE, 8 bytes at 14;
@@ -117,8 +142,8 @@ uint64_t yarvelow_event_into(const uint8_t *image, size_t length, uint8_t *next,
 /* Carries out events one after the other on an image, with one check of it at the start. length is exactly
  * YARVELOW_IMAGE(d), else BAD_IMAGE. orders holds pairs: port, event, port, event, ..; orders_length counts numbers,
  * two for each pair. answers[i] becomes what yarvelow_event would answer to pair i. As many pairs are carried out as
- * are whole in orders and have a place in answers. Answers DONE, whatever became of single events; or BAD_IMAGE or
- * BAD_TABLE, and then every byte and every answer stays. */
+ * are whole in orders and have a place in answers. Answers DONE, whatever became of single events; or BAD_IMAGE, or
+ * BAD_TABLE with what is bad, and then every byte and every answer stays. */
 uint64_t yarvelow_run(uint8_t *image, size_t length, const uint64_t *orders, size_t orders_length, uint64_t *answers,
                       size_t answers_length);
 

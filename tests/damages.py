@@ -76,7 +76,7 @@ def main():
     here = os.path.dirname(os.path.abspath(__file__))
     with open(os.path.join(here, "../crates/vectors/data/images.txt")) as lines:
         for line in lines:
-            image, wanted, _ = line.split()
+            image, wanted, *_ = line.split()
             data = b"" if image == "-" else bytes.fromhex(image)
             assert answer(data) == int(wanted), line
     counts = {0: 0, 1: 0, 11: 0}

@@ -34,7 +34,7 @@ pub fn number(answer: Answer) -> u64
 {
     match answer {
         Answer::Done => 0,
-        Answer::BadTable => 1,
+        Answer::BadTable(_) => 1,
         Answer::NoSuchPort => 2,
         Answer::NoSuchEvent => 3,
         Answer::Busy => 4,

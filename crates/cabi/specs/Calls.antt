@@ -9,7 +9,7 @@ use Rattle.model.specs.declared.Outcome.{Outcome}
 use Rattle.model.specs.declared.Answer.{Answer}
 use Rattle.model.specs.declared.Answer.the-variants.{ShortRoom}
 use Rattle.model.specs.Cost.{free}
-use Rattle.model.specs.Event.{numberOf, fresh, event}
+use Rattle.model.specs.Event.{numberOf, answerCode, fresh, event}
 use Rattle.model.specs.Run.{Order, codeOf}
 use Rattle.image.specs.Image.{encode, decode, writeAnswer, written, roomAfter}
 
@@ -23,13 +23,13 @@ freshCall d n = numberOf (freshAnswer d n) + 256 * written (freshAnswer d n) (fr
 unfoldable pub freshRoom : ℕ → List ℕ → List ℕ
 freshRoom d room = roomAfter (freshAnswer d (length room)) (fresh d .table) room
 
--- yarvelow_check: the reader's number
+-- yarvelow_check: the reader's answer, with what is bad in a bad table
 unfoldable pub checkCall : List ℕ → ℕ
-checkCall image = numberOf (decode image .answer)
+checkCall image = answerCode (decode image .answer)
 
 -- yarvelow_event: the reader's refusals, then the event's. Done, the image of the table after it; refused, every byte as it was
 abbrev pub eventOn : List ℕ → ℕ → ℕ → Outcome
-eventOn bs k e = cond (eqb (checkCall bs) 0) (event (decode bs .table) k e) (free (decode bs .answer) (decode bs .table))
+eventOn bs k e = cond (eqb (numberOf (decode bs .answer)) 0) (event (decode bs .table) k e) (free (decode bs .answer) (decode bs .table))
 
 unfoldable pub eventCall : List ℕ → ℕ → ℕ → ℕ
 eventCall image k e = codeOf (eventOn image k e)
@@ -55,6 +55,6 @@ calls image (o ∷ os) = eventCall image (o .port) (o .event) ∷ calls (eventIm
 unfoldable pub callsImage : List ℕ → List Order → List ℕ
 callsImage image os = foldl (λ now o. eventImage now (o .port) (o .event)) image os
 
--- yarvelow_run answers the reader's number. Its image is that of as many calls; where the reader refuses, the places for answers stay as they were
+-- yarvelow_run answers what the reader does. Its image is that of as many calls; where the reader refuses, the places for answers stay as they were
 unfoldable pub runPlaces : List ℕ → List Order → List ℕ → List ℕ
-runPlaces image os places = cond (eqb (checkCall image) 0) (sets places 0 (calls image os)) places
+runPlaces image os places = cond (eqb (numberOf (decode image .answer)) 0) (sets places 0 (calls image os)) places

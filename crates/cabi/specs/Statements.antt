@@ -11,11 +11,11 @@ use Rattle.model.specs.Good.{good}
 use Rattle.model.specs.Event.{numberOf, stepping, crash}
 use Rattle.model.specs.Run.{Order, order, ran, codes, stepless}
 use Rattle.model.specs.Statements.{one}
-use Rattle.layout.specs.Bytes.{Bytes}
-use Rattle.layout.specs.Layout.{size}
-use Rattle.image.specs.Image.{encode, roomAfter}
+use Rattle.model.specs.Bytes.{Bytes}
+use Rattle.model.specs.Layout.{size}
+use Rattle.image.specs.Image.{encode, decode, roomAfter}
 use Rattle.cabi.specs.Calls.{freshCall, freshRoom, checkCall, eventOn, eventCall, eventImage, intoOn, intoCall, intoNext, calls, callsImage, runPlaces}
-use Rattle.cabi.specs.Laws.Calling.{event-unread, calls-run, into-begins}
+use Rattle.cabi.specs.Laws.Calling.{code-done, event-unread, calls-run, into-begins}
 use Rattle.cabi.specs.Laws.Running.{run-unread}
 use Rattle.cabi.specs.Laws.Rack.{fresh-image, accepted-reached, inside-bytes, critical-bytes, back-bytes}
 
@@ -55,7 +55,7 @@ event-leaves image k e n = rw (ne-eqb _ 0 n)
 
 pub event-unread-leaves : (image : List ℕ) (k e : ℕ) → (checkCall image ≡ 0 → ⊥) → eventImage image k e ≡ image
 unfolding checkCall
-event-unread-leaves image k e n = sym (event-unread image (checkCall image) refl n k e .1)
+event-unread-leaves image k e n = sym (event-unread image (checkCall image) refl (λ z. n (sym (code-done (decode image .answer) z))) k e .1)
 
 pub into-leaves : (image next : List ℕ) (k e : ℕ) → (numberOf (intoOn image (length next) k e .answer) ≡ 0 → ⊥) → intoNext image next k e ≡ next
 unfolding intoNext roomAfter
@@ -63,7 +63,9 @@ into-leaves image next k e n = rw (ne-eqb _ 0 n)
 
 pub run-leaves : (image : List ℕ) (os : List Order) (places : List ℕ) → (checkCall image ≡ 0 → ⊥) → (callsImage image os ≡ image) × (runPlaces image os places ≡ places)
 unfolding checkCall
-run-leaves image os places n = let r = run-unread image (checkCall image) refl n os places in (sym (r .1 .0), sym (r .1 .1))
+run-leaves image os places n =
+    let r = run-unread image (checkCall image) refl (λ z. n (sym (code-done (decode image .answer) z))) os places in
+    (sym (r .1 .0), sym (r .1 .1))
 
 -- Done into another buffer, an event answers what it answers where the image stands; the buffer begins with the image after it, and keeps what stood after that
 pub into-next : (image next : List ℕ) (k e : ℕ) → Bytes image → numberOf (intoOn image (length next) k e .answer) ≡ 0

@@ -10,10 +10,10 @@ use Rattle.model.specs.declared.Made.{Made}
 use Rattle.model.specs.declared.Answer.{Answer}
 use Rattle.model.specs.declared.Answer.the-variants.{Done, BadTable, ShortRoom, BadImage}
 use Rattle.model.specs.Table.{room, table, noPort, noCopies, freshTable}
-use Rattle.model.specs.Good.{good}
+use Rattle.model.specs.Good.{good, badIn}
 use Rattle.model.specs.Event.{numberOf}
-use Rattle.layout.specs.Bytes.{sum, pack, unpack, unpacks}
-use Rattle.layout.specs.Layout.{sharedWidths, portWidths, copiedWidths, copiesWidths, headWidths, sharedValues, portValues, copiedValues, copiesValues, headValues, sharedOf, portOf, copiesOf, portPlace, copiesPlace, size, dIn, isImage}
+use Rattle.model.specs.Bytes.{sum, pack, unpack, unpacks}
+use Rattle.model.specs.Layout.{sharedWidths, portWidths, copiedWidths, copiesWidths, headWidths, sharedValues, portValues, copiedValues, copiesValues, headValues, sharedOf, portOf, copiesOf, portPlace, copiesPlace, size, dIn, isImage}
 use Rattle.image.specs.declared.Written.{Written}
 
 -- the image of a table
@@ -38,11 +38,11 @@ refused a = record { table = freshTable 1; answer = a }
 unfoldable pub decode : List ℕ → Made
 decode bs =
     let t = held (dIn bs) bs in
-    cond (isImage bs) (cond (good t) (record { table = t; answer = Done }) (refused BadTable)) (refused BadImage)
+    cond (isImage bs) (cond (good t) (record { table = t; answer = Done }) (refused (BadTable (badIn t)))) (refused BadImage)
 
 -- what writing answers to a room of n bytes: BAD TABLE, then SHORT ROOM
 unfoldable pub writeAnswer : Table → ℕ → Answer
-writeAnswer t n = cond (good t) (cond (ltb n (size (t .shared .d))) ShortRoom Done) BadTable
+writeAnswer t n = cond (good t) (cond (ltb n (size (t .shared .d))) ShortRoom Done) (BadTable (badIn t))
 
 -- what goes with an answer: done, the image's length and the image at the room's start; else length 0 and the room as it was
 unfoldable pub written : Answer → Table → Written

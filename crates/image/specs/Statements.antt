@@ -1,19 +1,20 @@
--- What is proved of images. `read` promises `decode` of its result, and `checking::answer` its number; `write` promises `written` of its result and `roomAfter` of
--- the room, by `writeAnswer`, and `blank` the same for a fresh table: so their contracts say.
+-- What is proved of images. `read` promises `decode` of its result, `checking::number` and `checking::bad` its answer's number and what goes with it; `write`
+-- promises `written` of its result and `roomAfter` of the room, by `writeAnswer`, and `blank` the same for a fresh table: so their contracts say.
 use mathlib.Core.Path.{_≡_, ap, _∙_}
 use mathlib.Core.Bool.{true}
 use mathlib.Core.List.{List}
 use Prim.Native.Nat.{ℕ, _+_, _*_, _≤_, _<_}
 use native.Mathlib.Omega.{arith}
 use lib.ListN.{length, getD, take, drop}
+use Rattle.model.specs.declared.Fault.{Fault}
 use Rattle.model.specs.declared.Table.{Table}
 use Rattle.model.specs.declared.Made.{Made}
 use Rattle.model.specs.declared.Answer.the-variants.{Done}
 use Rattle.model.specs.Table.{room, Sized, freshTable}
 use Rattle.model.specs.Good.{good}
-use Rattle.model.specs.Event.{numberOf}
+use Rattle.model.specs.Event.{numberOf, faultIn}
 use Rattle.model.specs.Statements.{one}
-use Rattle.layout.specs.Bytes.{Bytes}
+use Rattle.model.specs.Bytes.{Bytes}
 use Rattle.image.specs.declared.Written.{Written}
 use Rattle.image.specs.Image.{encode, decode, writeAnswer, written, roomAfter}
 use Rattle.image.specs.Laws.Encoded.{length-encode, size-narrow, size-wide, encode-bytes}
@@ -49,6 +50,9 @@ read-one bs r s = one
 
 pub answer-one : (bs : List ℕ) (r s : ℕ) → r ≡ numberOf (decode bs .answer) → s ≡ numberOf (decode bs .answer) → r ≡ s
 answer-one bs r s = one
+
+pub bad-one : (bs : List ℕ) (r s : Fault) → r ≡ faultIn (decode bs .answer) → s ≡ faultIn (decode bs .answer) → r ≡ s
+bad-one bs r s = one
 
 pub write-one : (t : Table) (out : List ℕ) (v w : Written) (a b : List ℕ)
     → v ≡ written (writeAnswer t (length out)) t → a ≡ roomAfter (writeAnswer t (length out)) t out

@@ -1,12 +1,17 @@
 // The check of an image where it stands: port by port, with no room for a table.
+use model::Fault;
 use model::Shared;
 use points::places;
+use rules::faults;
 use rules::good;
 ghost use mathlib.Core.Path.{_≡_};
+ghost use mathlib.Core.List.{foldl};
 ghost use Prim.Native.Nat.{_<_};
-ghost use Rattle.model.specs.Good.{placeGood, good};
-ghost use Rattle.model.specs.Event.{numberOf};
-ghost use Rattle.layout.specs.Layout as Layout;
+ghost use Rattle.model.specs.Good.{good, lower, badIn};
+ghost use Rattle.model.specs.Parts.Good.{placeGood};
+ghost use Rattle.model.specs.Event.{numberOf, faultIn};
+ghost use Rattle.model.specs.Laws.Listed.{rulesAt};
+ghost use Rattle.model.specs.Layout as Layout;
 ghost use Rattle.records.specs.Records as Records;
 ghost use Rattle.records.specs.Records.{portsIn};
 ghost use Rattle.image.specs.Image.{held, decode};
@@ -62,7 +67,7 @@ fn sound(bytes: &[u8], d: u8) -> bool
 }
 
 // The reader's number for an image.
-pub fn answer(bytes: &[u8]) -> u64
+pub fn number(bytes: &[u8]) -> u64
     ensures { λ r. ⌜ r ≡ numberOf (decode (now (bytes .entry)) .answer) ⌝ }
 {
     let d = records::ports_in(bytes);
@@ -73,4 +78,56 @@ pub fn answer(bytes: &[u8]) -> u64
         return BAD_TABLE;
     }
     0
+}
+
+// What is bad after port k of the image of d ports, with what all share.
+fn port_bad(bad: Fault, bytes: &[u8], d: u8, s: Shared, k: u8) -> Fault
+    requires { ⌜ (d ≡ portsIn (now bytes)) × (k < d) × (s ≡ held d (now bytes) .shared) ⌝ }
+    ensures { λ r. ⌜ r ≡ foldl lower bad (rulesAt (held d (now (bytes .entry))) k) ⌝ }
+{
+    let p = records::port_in(bytes, k);
+    faults::port_fault(
+        bad,
+        s,
+        k,
+        p,
+        records::copies_in(bytes, d, k),
+        made_in(bytes, p.work.seenowner),
+        made_in(bytes, p.work.candidate),
+    )
+}
+
+// What is bad in the table of the image of d ports.
+fn bad_in(bytes: &[u8], d: u8) -> Fault
+    requires { ⌜ (d ≡ portsIn (now bytes)) × (0 < d) ⌝ }
+    ensures { λ r. ⌜ r ≡ badIn (held d (now (bytes .entry))) ⌝ }
+{
+    let s = records::shared_in(bytes, d);
+    let mut bad = faults::shared_fault(true, s, made_in(bytes, s.word.owner));
+    let mut k: u8 = 0;
+    while k < d {
+        bad = port_bad(bad, bytes, d, s, k);
+        k += 1;
+    }
+    bad
+}
+
+// What goes with the reader's answer. It is looked for in a second reading, so that the check of a good image is short.
+pub fn bad(bytes: &[u8]) -> Fault
+    ensures { λ r. ⌜ r ≡ faultIn (decode (now (bytes .entry)) .answer) ⌝ }
+{
+    let whole = Fault {
+        kind: 0,
+        port: 0,
+        place: 0,
+    };
+    let d = records::ports_in(bytes);
+    if d == 0 {
+        return whole;
+    }
+    let bad = bad_in(bytes, d as u8);
+    if bad.place == faults::NOWHERE {
+        return whole;
+    }
+    bad
 }

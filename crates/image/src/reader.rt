@@ -108,12 +108,12 @@ fn accepted(bytes: &[u8], number: u64) -> u8
     0
 }
 
-fn named(number: u64) -> Answer
-    ensures { λ r. ⌜ r ≡ answerOf number ⌝ }
+fn named(bytes: &[u8], number: u64) -> Answer
+    ensures { λ r. ⌜ r ≡ answerOf number (now (bytes .entry)) ⌝ }
 {
     match number {
         0 => Answer::Done,
-        1 => Answer::BadTable,
+        1 => Answer::BadTable(checking::bad(bytes)),
         _ => Answer::BadImage,
     }
 }
@@ -122,6 +122,6 @@ fn named(number: u64) -> Answer
 pub fn read(bytes: &[u8]) -> Made
     ensures { λ r. ⌜ r ≡ Image.decode (now (bytes .entry)) ⌝ }
 {
-    let number = checking::answer(bytes);
-    filled(bytes, accepted(bytes, number), named(number))
+    let number = checking::number(bytes);
+    filled(bytes, accepted(bytes, number), named(bytes, number))
 }

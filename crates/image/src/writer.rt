@@ -1,8 +1,10 @@
 // The writer of images.
 use crate::Written;
 use model::Answer;
+use model::Fault;
 use model::ROOM;
 use model::Table;
+use rules::faults;
 use rules::good;
 ghost use mathlib.Core.Path.{_≡_};
 ghost use Prim.Native.Nat.{_-_, _≤_};
@@ -19,35 +21,32 @@ pub fn write(table: Table, room: &mut [u8]) -> Written
     ensures { λ _. ⌜ now (room .exit) ≡ Image.roomAfter (Image.writeAnswer table (length (now (room .entry)))) table (now (room .entry)) ⌝ }
 {
     let s = table.shared;
-    let o = good::slot(s.word.owner as u64);
-    let mut ok = good::size_good(s.d) & good::shared_good(s, table.ports[o].made);
     let n = good::ports(s.d);
-    let mut i: usize = 0;
-    while i < n {
-        let p = table.ports[i];
-        let a = good::slot(p.work.seenowner as u64);
-        let b = good::slot(p.work.candidate as u64);
-        ok = ok
-            & good::port_good(
-                s,
-                i as u64,
-                p,
-                table.copies[i],
-                table.ports[a].made,
-                table.ports[b].made,
-            );
-        i += 1;
-    }
     let mut rest: u64 = 0;
     let mut e = n;
     while e < ROOM {
         rest = rest | good::joined(table.ports[e], table.copies[e]);
         e += 1;
     }
-    if !(ok & (rest == 0)) {
+    let o = good::slot(s.word.owner as u64);
+    let mut bad = faults::shared_fault(rest == 0, s, table.ports[o].made);
+    let mut i: usize = 0;
+    while i < n {
+        let p = table.ports[i];
+        let a = good::slot(p.work.seenowner as u64);
+        let b = good::slot(p.work.candidate as u64);
+        let c = table.copies[i];
+        let x = table.ports[a].made;
+        let y = table.ports[b].made;
+        if !good::port_good(s, i as u64, p, c, x, y) {
+            bad = faults::port_fault(bad, s, i as u8, p, c, x, y);
+        }
+        i += 1;
+    }
+    if bad.place != faults::NOWHERE {
         return Written {
             length: 0,
-            answer: Answer::BadTable,
+            answer: Answer::BadTable(bad),
         };
     }
     let d = n as u8;
@@ -95,9 +94,14 @@ pub fn blank(d: u64, room: &mut [u8]) -> Written
     ensures { λ _. ⌜ now (room .exit) ≡ Image.roomAfter (Image.writeAnswer (freshTable d) (length (now (room .entry)))) (freshTable d) (now (room .entry)) ⌝ }
 {
     if !good::size_good(d) {
+        let whole = Fault {
+            kind: 0,
+            port: 0,
+            place: 0,
+        };
         return Written {
             length: 0,
-            answer: Answer::BadTable,
+            answer: Answer::BadTable(whole),
         };
     }
     let m = d as u8;

@@ -1,6 +1,4 @@
 -- What a reader believes of the layout of images: numbers as bytes, and the fields of each record with their widths. `Laws` says what follows of any widths.
-pub mod Bytes
-pub mod Layout
 pub mod Places
 pub mod Laws
 pub mod Statements

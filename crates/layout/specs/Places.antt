@@ -2,8 +2,8 @@
 use Prim.Native.Nat.{ℕ, _+_, _*_}
 use Rattle.model.specs.declared.Cell.{Cell}
 use Rattle.model.specs.declared.Cell.the-variants.{Nothing, Status, Go, Spin, Active, Lock, CandidateGo, SeenSpin}
-use Rattle.layout.specs.Bytes.{sum}
-use Rattle.layout.specs.Layout.{setWidth, headWidths, portPlace, copiesPlace, size}
+use Rattle.model.specs.Bytes.{sum}
+use Rattle.model.specs.Layout.{setWidth, headWidths, portPlace, copiesPlace, size}
 
 -- the copy set of a word that belongs to port j, in the image of d ports; where there is no word, past the image
 abbrev pub setPlace : Cell → ℕ → ℕ → ℕ

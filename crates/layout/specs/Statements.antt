@@ -9,9 +9,9 @@ use Rattle.model.specs.declared.Port.{Port}
 use Rattle.model.specs.declared.Copies.{Copies}
 use Rattle.model.specs.declared.Shared.{Shared}
 use Rattle.model.specs.Statements.{one}
-use Rattle.layout.specs.Bytes.{sum, pack, unpack}
+use Rattle.model.specs.Bytes.{sum, pack, unpack}
 use Rattle.layout.specs.Places.{setPlace}
-use Rattle.layout.specs.Layout.{headWidths, sharedWidths, portWidths, setWidth, copiedWidths, copiesWidths, version, sharedValues, portValues, copiedValues, copiesValues, sharedOf, portOf, copiesOf, headValues, portPlace, copiesPlace, size}
+use Rattle.model.specs.Layout.{headWidths, sharedWidths, portWidths, setWidth, copiedWidths, copiesWidths, version, sharedValues, portValues, copiedValues, copiesValues, sharedOf, portOf, copiesOf, headValues, portPlace, copiesPlace, size}
 
 pub shared-values-one : (x : Shared) (r s : List ℕ) → r ≡ sharedValues x → s ≡ sharedValues x → r ≡ s
 shared-values-one x r s = one

@@ -8,8 +8,8 @@ use model::Word;
 use model::Work;
 ghost use mathlib.Core.Path.{_≡_};
 ghost use Prim.Native.Nat.{_+_, _*_, _≤_};
-ghost use Rattle.layout.specs.Bytes.{sum, pack, unpack};
-ghost use Rattle.layout.specs.Layout as Layout;
+ghost use Rattle.model.specs.Bytes.{sum, pack, unpack};
+ghost use Rattle.model.specs.Layout as Layout;
 ghost use Rattle.layout.specs.Places as Places;
 
 pub const HEAD: [usize; 8] = [1, 1, 2, 2, 2, 2, 2, 2];
@@ -241,8 +241,10 @@ pub fn set_place(cell: Cell, d: u8, j: u8) -> usize
     }
 }
 
-fn set_width(d: u8) -> usize
-    ensures { λ r. ⌜ (r ≡ Layout.setWidth d) × (r ≤ 8) ⌝ }
+// The bytes of a copy set in the image of d ports.
+pub fn set_width(d: u8) -> usize
+    ensures { λ r. ⌜ r ≡ Layout.setWidth d ⌝ }
+    ensures { λ r. ⌜ r ≤ 8 ⌝ }
 {
     if d <= NARROW { 2 } else { 8 }
 }

@@ -5,7 +5,7 @@ use Prim.Native.Nat.{ℕ, _+_, _-_, _*_}
 use lib.Dec.{eqb, ltb, leb}
 use lib.ListN.{length, getD, drop}
 use Rattle.model.specs.Event.{enter, stepping, crash, callOff, leave}
-use Rattle.model.specs.Good.{sizeGood}
+use Rattle.model.specs.Table.{sizeGood}
 
 -- bytes
 abbrev pub newline : ℕ

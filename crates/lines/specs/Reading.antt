@@ -2,7 +2,7 @@
 use mathlib.Core.Bool.{Bool, true, false, cond, _&&_}
 use Prim.Native.Nat.{ℕ, _+_, _-_, _*_}
 use lib.Dec.{eqb, ltb}
-use Rattle.model.specs.Good.{sizeGood}
+use Rattle.model.specs.Table.{sizeGood}
 use Rattle.lines.specs.declared.Part.{Part}
 use Rattle.lines.specs.declared.Part.the-variants.{Nothing, Letter, Space, Number}
 use Rattle.lines.specs.declared.Stage.{Stage}

@@ -16,7 +16,7 @@ use Rattle.model.specs.declared.Shared.{Shared}
 use Rattle.model.specs.declared.Table.{Table}
 use Rattle.model.specs.declared.Touch.{Touch}
 use Rattle.model.specs.Table.{table, noPort, portAt, copiesAt, putPort}
-use Rattle.model.specs.Event.{numberOf, ordered, stepping}
+use Rattle.model.specs.Event.{numberOf, answerCode, ordered, stepping}
 use Rattle.model.specs.Run.{codeOf}
 use Rattle.model.specs.Parts.Steps.{touchOf, homeOf}
 use Rattle.model.specs.Paid.{paidAnswer, paidEvent}
@@ -25,7 +25,7 @@ use Rattle.model.specs.Laws.Cases.{unrefused-step}
 use Rattle.model.specs.Laws.Kept.{room-fits}
 use Rattle.lock.specs.declared.orders.Acted.{Acted}
 use Rattle.lock.specs.Parts.{viewOn, steppedOn, kept, leaves, actedOn}
-use Rattle.lock.specs.Sight.{Sight, assembled, setAt, refused, obeyed, moved}
+use Rattle.lock.specs.Sight.{Sight, assembled, setAt, plain-code, refused, obeyed, moved}
 use Rattle.lock.specs.Ready.{Passed}
 
 -- a step sees what it needs
@@ -83,13 +83,13 @@ module _ (t : Table) (k e : ℕ) where
       let a = act-refused (touchOf t k) (t .shared) k e (portAt t k) (portAt t j) (copiesAt t j) n in
       let o = refused t k e n in
       record {
-        code = rw (← a, o) (omega arith);
+        code = rw (← a, o, plain-code (t .shared) k e (portAt t k)) (omega arith);
         table = rw (← a, o) (rejoined t k j (portAt t k) ∙ ap (λ (l : List Port). table l (t .copies) (t .shared)) (set-getD (t .ports) k noPort));
         refused = λ z. rw o;
       }
 
   acts-ordered : number ≡ 0 → (e ≡ 2 → ⊥) → Acts t k e
-  unfolding codeOf
+  unfolding codeOf answerCode
   acts-ordered z n =
       let a = act-ordered (touchOf t k) (t .shared) k e (portAt t k) (portAt t j) (copiesAt t j) z n in
       let o = obeyed t k e z n in
@@ -100,7 +100,7 @@ module _ (t : Table) (k e : ℕ) where
       }
 
   acts-stepped : number ≡ 0 → e ≡ 2 → Acts t k e
-  unfolding codeOf
+  unfolding codeOf answerCode
   acts-stepped z n =
       let l = steppedOn (touchOf t k) (t .shared) k (portAt t k) (portAt t j) (copiesAt t j) in
       let a = act-stepped (touchOf t k) (t .shared) k e (portAt t k) (portAt t j) (copiesAt t j) z n in

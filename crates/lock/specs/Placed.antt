@@ -18,7 +18,7 @@ use Rattle.model.specs.Parts.Rules.{slotOf}
 use Rattle.model.specs.Paid.{paidAnswer, paidEvent}
 use Rattle.rules.specs.Check.{slot-own}
 use Rattle.lock.specs.declared.orders.Acted.{Acted}
-use Rattle.lock.specs.Sight.{refused}
+use Rattle.lock.specs.Sight.{plain-code, refused}
 use Rattle.lock.specs.Ready.{passed, any-record, port-fits, home-fits}
 use Rattle.lock.specs.Parts.{kept, actedOn}
 use Rattle.lock.specs.Acted.{act-refused, joined, rejoined, acts}
@@ -56,7 +56,7 @@ module _ (t : Table) (port e k j : ℕ) (a : k ≡ slotOf port) (b : j ≡ slotO
       let f = act-refused (touchOf t k) (t .shared) port e (portAt t k) (portAt t j) (copiesAt t j) (λ z. n (ap numberOf (sym answer) ∙ z)) in
       let o = refused t port e n in
       record {
-        code = rw (← f, o, answer) (omega arith);
+        code = rw (← f, o, answer, plain-code (t .shared) port e (portAt t port)) (omega arith);
         table = rw (← f, o) (unchanged t k j);
       }
 

@@ -12,9 +12,8 @@ use Rattle.model.specs.declared.Shared.{Shared}
 use Rattle.model.specs.declared.Table.{Table}
 use Rattle.model.specs.declared.Cell.{Cell}
 use Rattle.model.specs.declared.Cell.the-variants.{Nothing, Status, Go, Spin, Active, Lock, CandidateGo, SeenSpin}
-use Rattle.model.specs.Table.{room, most, portAt}
+use Rattle.model.specs.Table.{room, most, portAt, sizeGood}
 use Rattle.model.specs.Mask.{within}
-use Rattle.model.specs.Good.{sizeGood}
 use Rattle.model.specs.Event.{numberOf, stepping, firstOf, refusals}
 use Rattle.model.specs.Parts.Charges.{home}
 use Rattle.model.specs.Parts.Steps.{touchOf, homeOf, viewOf}

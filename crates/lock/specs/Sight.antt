@@ -4,27 +4,31 @@ use mathlib.Core.Bool.{Bool, true, false, cond}
 use mathlib.Core.List.{List, [], _∷_}
 use Prim.Native.Nat.{ℕ, _%_, _≤_, _<_, _^_}
 use native.Mathlib.Nat.{mod-eq-of-lt, lt-of-lt-of-le, pos-of-ne-zero}
+use native.Mathlib.Omega.{arith}
 use lib.Dec.{eqb}
 use lib.ListN.{getD, set}
 use lib.Seq.{set-getD}
 use borrow.Author.Tests.{eq-eqb, ne-eqb, leb-true, ltb-true}
 use Rattle.model.specs.declared.Port.{Port}
+use Rattle.model.specs.declared.Shared.{Shared}
 use Rattle.model.specs.declared.Table.{Table}
 use Rattle.model.specs.declared.View.{View}
 use Rattle.lock.specs.declared.acts.Left.{Left}
 use Rattle.lock.specs.Parts.{steppedOn}
 use Rattle.model.specs.declared.Outcome.{Outcome}
+use Rattle.model.specs.declared.Answer.{Answer}
 use Rattle.model.specs.declared.Answer.the-variants.{Done}
 use Rattle.model.specs.Table.{most, table, noPort, portAt, copiesAt, putPort}
 use Rattle.model.specs.Ring.{next}
-use Rattle.model.specs.Laws.Tests.{conjunct, implied}
+use Rattle.model.specs.Laws.Tests.{conjunct, implied, split}
 use Rattle.model.specs.Laws.Mask.{within-lt}
 use Rattle.model.specs.Laws.Ring.{next-any}
 use Rattle.model.specs.Laws.Stepped.{carried-parts}
 use Rattle.model.specs.Points.{settled}
+use Rattle.model.specs.Good.{whole}
 use Rattle.model.specs.Cost.{outcome, free}
 use Rattle.model.specs.Step.{withValue}
-use Rattle.model.specs.Event.{numberOf, ordered}
+use Rattle.model.specs.Event.{numberOf, faultIn, answerCode, firstOf, refusals, ordered}
 use Rattle.model.specs.Parts.Moves.{sees}
 use Rattle.model.specs.Parts.Steps.{touchOf, homeOf, viewOf, moveOf, chargeOf, marks, marked, stepped}
 use Rattle.model.specs.Paid.{paidAnswer, paidEvent}
@@ -86,6 +90,26 @@ module _ (t : Table) (k : ℕ) where
       (marks t k)
       (set (t .ports) k (settled (moveOf t k .own)))
       (homeOf t k))
+
+-- what holds of DONE and of each refusal of a list holds of the first that applies
+abbrev pub Each : (Answer → Type 0) → List (Bool × Answer) → Type 0
+Each P [] = Unit {0}
+Each P (r ∷ rs) = P (r .1) × Each P rs
+
+pub first-each : (P : Answer → Type 0) → P Done → (rs : List (Bool × Answer)) → Each P rs → P (firstOf rs)
+unfolding firstOf
+first-each P d [] h = d
+first-each P d (r ∷ rs) h = split P (r .0) (r .1) (firstOf rs) (λ e. h .0) (λ e. first-each P d rs (h .1))
+
+-- an order before anything is changed charges no field: what it answers is a number alone
+pub plain-answer : (s : Shared) (k e : ℕ) (p : Port) → faultIn (paidAnswer s k e p) ≡ whole
+unfolding paidAnswer refusals
+plain-answer s k e p =
+    first-each (λ (a : Answer). faultIn a ≡ whole) refl _ (refl, (refl, (refl, (refl, (refl, (refl, (refl, (refl, (refl, tt)))))))))
+
+pub plain-code : (s : Shared) (k e : ℕ) (p : Port) → answerCode (paidAnswer s k e p) ≡ numberOf (paidAnswer s k e p)
+unfolding answerCode
+plain-code s k e p = rw (plain-answer s k e p) (omega arith)
 
 -- an order, by what it answers before anything is changed: refused, an event that is no step, or a step
 module _ (t : Table) (k e : ℕ) where

@@ -14,10 +14,11 @@ use Rattle.model.specs.declared.Shared.{Shared}
 use Rattle.model.specs.declared.Table.{Table}
 use Rattle.model.specs.declared.Touch.{Touch}
 use Rattle.model.specs.declared.Outcome.{Outcome}
+use Rattle.model.specs.declared.Fault.{Fault}
 use Rattle.model.specs.declared.Answer.{Answer}
 use Rattle.model.specs.declared.Answer.the-variants.{Done, BadTable}
 use Rattle.model.specs.Table.{Sized, portAt}
-use Rattle.model.specs.Good.{good}
+use Rattle.model.specs.Good.{good, badIn}
 use Rattle.model.specs.Event.{numberOf, event}
 use Rattle.model.specs.Parts.Charges.{home}
 use Rattle.model.specs.Parts.Steps.{touchOf, sharedAfter, copiesAfter}
@@ -31,7 +32,7 @@ use Rattle.model.specs.Laws.Paid.{paid-event}
 use Rattle.model.specs.Laws.Fees.{charge-cost}
 use Rattle.lock.specs.declared.orders.Acted.{Acted}
 use Rattle.lock.specs.Parts.{moveOn, steppedOn}
-use Rattle.lock.specs.Sight.{refused}
+use Rattle.lock.specs.Sight.{plain-code, refused}
 use Rattle.lock.specs.Ready.{any-record}
 use Rattle.lock.specs.Acted.{joined}
 use Rattle.lock.specs.Placed.{actedAt, placed}
@@ -117,7 +118,7 @@ module _ (xs : List ℕ) (n : ℕ) (t₀ : Table) (a₀ : List ℕ) where
     turn-refused c e z =
         let q = e ∙ ap numberOf (any-record t port event-at k (slot-own port k p)) in
         let o = sym (refused t port event-at (λ y. z (q ∙ y))) ∙ paid in
-        turned i t t a c h r (ap (λ (x : Outcome). x .table) o) (q ∙ rw (← o) (omega arith))
+        turned i t t a c h r (ap (λ (x : Outcome). x .table) o) (q ∙ rw (← o, plain-code (t .shared) port event-at (portAt t port)) (omega arith))
 
     -- carried out
     pub turn-done : (j : ℕ) (l : Acted) → j ≡ slotOf (home (touchOf t k .cell) port (portAt t k .work)) → l ≡ actedAt t port event-at k j
@@ -136,13 +137,13 @@ module _ (xs : List ℕ) (n : ℕ) (t₀ : Table) (a₀ : List ℕ) where
       (rw e at (r .table), rw e at (r .text))
 
   -- the run's end: on a good table m orders were carried out, on a bad one none
-  pub run-ends : (m : ℕ) (sound : Bool) → sound ≡ good t₀ → n ≡ cond sound m 0 → (i : ℕ) (t : Table) (a : List ℕ) (w : Answer)
-      → w ≡ cond sound Done BadTable → n ≤ i → Running xs n t₀ a₀ i t a
+  pub run-ends : (m : ℕ) (sound : Bool) (bad : Fault) → sound ≡ good t₀ → bad ≡ badIn t₀ → n ≡ cond sound m 0
+      → (i : ℕ) (t : Table) (a : List ℕ) (w : Answer) → w ≡ cond sound Done (BadTable bad) → n ≤ i → Running xs n t₀ a₀ i t a
       → (record { table = t; answer = w } ≡ run t₀ (orders m xs)) × (a ≡ runAnswers t₀ (orders m xs) a₀)
   unfolding run runAnswers ran codes orders
-  run-ends m true g e i t a w f h r =
+  run-ends m true bad g b e i t a w f h r =
       let z = ends i t a h r in
       (rw (← g, f, z .0, e), rw (← g, z .1, e))
-  run-ends m false g e i t a w f h r =
+  run-ends m false bad g b e i t a w f h r =
       let z = ends i t a h r in
-      (rw (← g, f, z .0, e), rw (← g, z .1, e))
+      (rw (← g, f, b, z .0, e), rw (← g, z .1, e))

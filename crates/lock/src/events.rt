@@ -2,11 +2,13 @@
 use crate::acts;
 use crate::orders;
 use model::Answer;
+use model::Fault;
 use model::Made;
 use model::Outcome;
 use model::ROOM;
 use model::Table;
 use points::places;
+use rules::faults;
 use rules::good;
 ghost use mathlib.Core.Path.{_≡_};
 ghost use Rattle.model.specs.Event as Event;
@@ -19,13 +21,13 @@ pub fn fresh(d: u64) -> Made
     answers::fresh(d)
 }
 
-// The answer that a number stands for.
-fn named(number: u64) -> Answer
-    ensures { λ r. ⌜ r ≡ answerOf number ⌝ }
+// The answer that a number stands for, with what is bad in a bad table.
+fn named(number: u64, bad: Fault) -> Answer
+    ensures { λ r. ⌜ r ≡ answerOf number bad ⌝ }
 {
     match number {
         0 => Answer::Done,
-        1 => Answer::BadTable,
+        1 => Answer::BadTable(bad),
         2 => Answer::NoSuchPort,
         3 => Answer::NoSuchEvent,
         4 => Answer::Busy,
@@ -44,30 +46,27 @@ pub fn event(mut table: Table, port: u64, event: u64) -> Outcome
     ensures { λ r. ⌜ r ≡ Event.event table port event ⌝ }
 {
     let s = table.shared;
-    let o = good::slot(s.word.owner as u64);
-    let mut ok = good::size_good(s.d) & good::shared_good(s, table.ports[o].made);
     let n = good::ports(s.d);
-    let mut i: usize = 0;
-    while i < n {
-        let p = table.ports[i];
-        let a = good::slot(p.work.seenowner as u64);
-        let b = good::slot(p.work.candidate as u64);
-        ok = ok
-            & good::port_good(
-                s,
-                i as u64,
-                p,
-                table.copies[i],
-                table.ports[a].made,
-                table.ports[b].made,
-            );
-        i += 1;
-    }
     let mut rest: u64 = 0;
     let mut e = n;
     while e < ROOM {
         rest = rest | good::joined(table.ports[e], table.copies[e]);
         e += 1;
+    }
+    let o = good::slot(s.word.owner as u64);
+    let mut bad = faults::shared_fault(rest == 0, s, table.ports[o].made);
+    let mut i: usize = 0;
+    while i < n {
+        let p = table.ports[i];
+        let a = good::slot(p.work.seenowner as u64);
+        let b = good::slot(p.work.candidate as u64);
+        let c = table.copies[i];
+        let x = table.ports[a].made;
+        let y = table.ports[b].made;
+        if !good::port_good(s, i as u64, p, c, x, y) {
+            bad = faults::port_fault(bad, s, i as u8, p, c, x, y);
+        }
+        i += 1;
     }
     let k = good::slot(port);
     let own = table.ports[k];
@@ -75,7 +74,7 @@ pub fn event(mut table: Table, port: u64, event: u64) -> Outcome
     let cell = u.cell;
     let j = good::slot(costs::home(cell, port, own.work));
     let l = orders::act_if(
-        ok & (rest == 0),
+        bad.place == faults::NOWHERE,
         u,
         table.shared,
         port,
@@ -97,6 +96,6 @@ pub fn event(mut table: Table, port: u64, event: u64) -> Outcome
         table,
         cached: code / 256 % 256,
         distributed: code / 65536,
-        answer: named(code % 256),
+        answer: named(code % 256, bad),
     }
 }

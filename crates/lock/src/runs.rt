@@ -2,10 +2,12 @@
 use crate::acts;
 use crate::orders;
 use model::Answer;
+use model::Fault;
 use model::Made;
 use model::ROOM;
 use model::Table;
 use points::places;
+use rules::faults;
 use rules::good;
 ghost use mathlib.Core.Path.{_≡_};
 ghost use mathlib.Core.Bool.{cond};
@@ -23,13 +25,13 @@ fn turns(sound: bool, pairs: usize, places: usize) -> usize
     if pairs < places { pairs } else { places }
 }
 
-fn answer(sound: bool) -> Answer
-    ensures { λ r. ⌜ r ≡ cond sound Answers.Done Answers.BadTable ⌝ }
+fn answer(sound: bool, bad: Fault) -> Answer
+    ensures { λ r. ⌜ r ≡ cond sound Answers.Done (Answers.BadTable bad) ⌝ }
 {
     if sound {
         return Answer::Done;
     }
-    Answer::BadTable
+    Answer::BadTable(bad)
 }
 
 // Carries out orders on any table, with one check of it: as many as there are pairs of port and event and places for their answers. answers[i] is what order
@@ -40,32 +42,29 @@ pub fn run(mut table: Table, orders: &[u64], answers: &mut [u64]) -> Made
     ensures { λ r. ⌜ now (answers .exit) ≡ Run.runAnswers table (Run.ordersFor (now (orders .entry)) (now (answers .entry))) (now (answers .entry)) ⌝ }
 {
     let s = table.shared;
-    let o = good::slot(s.word.owner as u64);
-    let mut ok = good::size_good(s.d) & good::shared_good(s, table.ports[o].made);
     let n = good::ports(s.d);
-    let mut i: usize = 0;
-    while i < n {
-        let p = table.ports[i];
-        let a = good::slot(p.work.seenowner as u64);
-        let b = good::slot(p.work.candidate as u64);
-        ok = ok
-            & good::port_good(
-                s,
-                i as u64,
-                p,
-                table.copies[i],
-                table.ports[a].made,
-                table.ports[b].made,
-            );
-        i += 1;
-    }
     let mut rest: u64 = 0;
     let mut e = n;
     while e < ROOM {
         rest = rest | good::joined(table.ports[e], table.copies[e]);
         e += 1;
     }
-    let sound = ok & (rest == 0);
+    let o = good::slot(s.word.owner as u64);
+    let mut bad = faults::shared_fault(rest == 0, s, table.ports[o].made);
+    let mut i: usize = 0;
+    while i < n {
+        let p = table.ports[i];
+        let a = good::slot(p.work.seenowner as u64);
+        let b = good::slot(p.work.candidate as u64);
+        let c = table.copies[i];
+        let x = table.ports[a].made;
+        let y = table.ports[b].made;
+        if !good::port_good(s, i as u64, p, c, x, y) {
+            bad = faults::port_fault(bad, s, i as u8, p, c, x, y);
+        }
+        i += 1;
+    }
+    let sound = bad.place == faults::NOWHERE;
     let m = turns(sound, orders.len() / 2, answers.len());
     let mut x: usize = 0;
     while x < m {
@@ -104,6 +103,6 @@ pub fn run(mut table: Table, orders: &[u64], answers: &mut [u64]) -> Made
     }
     Made {
         table,
-        answer: answer(sound),
+        answer: answer(sound, bad),
     }
 }

@@ -1,24 +1,25 @@
 -- Events and refusals (document 01, 'Events' and 'Refusal numbers').
 use mathlib.Core.Bool.{Bool, cond, not, _&&_, _||_}
 use mathlib.Core.List.{List, [], _∷_}
-use Prim.Native.Nat.{ℕ}
+use Prim.Native.Nat.{ℕ, _+_, _*_}
 use lib.Dec.{eqb, leb}
 use Rattle.model.specs.declared.Port.{Port}
 use Rattle.model.specs.declared.Table.{Table}
 use Rattle.model.specs.declared.Outcome.{Outcome}
 use Rattle.model.specs.declared.Made.{Made}
+use Rattle.model.specs.declared.Fault.{Fault}
 use Rattle.model.specs.declared.Answer.{Answer}
 use Rattle.model.specs.declared.Answer.the-variants.{Done, BadTable, NoSuchPort, NoSuchEvent, Busy, Worn, NotInside, Idle, Inside, BadSize, ShortRoom, BadImage}
-use Rattle.model.specs.Table.{most, noWork, portAt, putPort, freshTable}
+use Rattle.model.specs.Table.{most, sizeGood, noWork, portAt, putPort, freshTable}
 use Rattle.model.specs.Points.{pointOf}
-use Rattle.model.specs.Good.{sizeGood, good}
+use Rattle.model.specs.Good.{whole, good, badIn}
 use Rattle.model.specs.Cost.{free}
 use Rattle.model.specs.Step.{at, withFlag, withWork, step}
 
 -- document 01's number for every answer
 abbrev pub numberOf : Answer → ℕ
 numberOf Done = 0
-numberOf BadTable = 1
+numberOf (BadTable f) = 1
 numberOf NoSuchPort = 2
 numberOf NoSuchEvent = 3
 numberOf Busy = 4
@@ -29,6 +30,24 @@ numberOf Inside = 8
 numberOf BadSize = 9
 numberOf ShortRoom = 10
 numberOf BadImage = 11
+
+-- what goes with BAD TABLE; and an answer in one number: document 01's, and from bit 8, 16 and 24 on the kind, the port and the place
+abbrev pub faultIn : Answer → Fault
+faultIn (BadTable f) = f
+faultIn Done = whole
+faultIn NoSuchPort = whole
+faultIn NoSuchEvent = whole
+faultIn Busy = whole
+faultIn Worn = whole
+faultIn NotInside = whole
+faultIn Idle = whole
+faultIn Inside = whole
+faultIn BadSize = whole
+faultIn ShortRoom = whole
+faultIn BadImage = whole
+
+unfoldable pub answerCode : Answer → ℕ
+answerCode a = numberOf a + 256 * faultIn a .kind + 65536 * faultIn a .port + 16777216 * faultIn a .place
 
 -- the numbers of the events
 abbrev pub enter : ℕ
@@ -64,7 +83,7 @@ refusals e p =
 
 unfoldable pub refusal : Table → ℕ → ℕ → Answer
 unfolding firstOf
-refusal t k e = firstOf ((not (good t), BadTable) ∷ (leb (t .shared .d) k, NoSuchPort) ∷ refusals e (portAt t k))
+refusal t k e = firstOf ((not (good t), BadTable (badIn t)) ∷ (leb (t .shared .d) k, NoSuchPort) ∷ refusals e (portAt t k))
 
 -- a port after an event that is no step. E: point 0 becomes 1. X: point becomes 1, working values 0, nothing else. A: flag becomes 1.
 -- L: point 11 becomes 13

@@ -4,6 +4,8 @@ pub mod Tests
 pub mod Compute
 pub mod Mask
 pub mod Ring
+pub mod Listed
+pub mod Faults
 pub mod Rules
 pub mod Own
 pub mod Points

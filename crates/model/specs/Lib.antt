@@ -3,6 +3,8 @@ pub mod Table
 pub mod Mask
 pub mod Ring
 pub mod Points
+pub mod Bytes
+pub mod Layout
 pub mod Good
 pub mod Cost
 pub mod Step

@@ -9,9 +9,9 @@ use Rattle.model.specs.declared.Table.{Table}
 use Rattle.model.specs.declared.Outcome.{Outcome}
 use Rattle.model.specs.declared.Answer.{Answer}
 use Rattle.model.specs.declared.Answer.the-variants.{BadTable, NoSuchPort}
-use Rattle.model.specs.Table.{most, portAt}
+use Rattle.model.specs.Table.{most, sizeGood, portAt}
 use Rattle.model.specs.Mask.{within}
-use Rattle.model.specs.Good.{sizeGood}
+use Rattle.model.specs.Good.{whole}
 use Rattle.model.specs.Cost.{free}
 use Rattle.model.specs.Event.{numberOf, refusals, firstOf, carried}
 
@@ -19,11 +19,11 @@ use Rattle.model.specs.Event.{numberOf, refusals, firstOf, carried}
 unfoldable pub placed : ℕ → Port → Bool
 placed d p = ltb (p .work .seenowner) d && ltb (p .work .candidate) d && leb (p .made) most
 
--- what an order answers from what all share and its port: BAD TABLE where a step would not have its places
+-- what an order answers from what all share and its port: BAD TABLE as a whole, 1.0, where a step would not have its places
 unfoldable pub paidAnswer : Shared → ℕ → ℕ → Port → Answer
 paidAnswer s k e p =
-    firstOf ((not (sizeGood (s .d) && within (s .d) (s .active)), BadTable)
-    ∷ (leb (s .d) k, NoSuchPort) ∷ (not (placed (s .d) p), BadTable) ∷ refusals e p)
+    firstOf ((not (sizeGood (s .d) && within (s .d) (s .active)), BadTable whole)
+    ∷ (leb (s .d) k, NoSuchPort) ∷ (not (placed (s .d) p), BadTable whole) ∷ refusals e p)
 
 unfoldable pub paidEvent : Table → ℕ → ℕ → Outcome
 paidEvent t k e =

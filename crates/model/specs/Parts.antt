@@ -3,4 +3,5 @@
 pub mod Moves
 pub mod Charges
 pub mod Steps
+pub mod Good
 pub mod Rules

@@ -13,9 +13,9 @@ use Rattle.model.specs.declared.Answer.the-variants.{Done, BadTable}
 use Rattle.model.specs.Table.{CS, word, portAt, freshTable}
 use Rattle.model.specs.Mask.{stands}
 use Rattle.model.specs.Points.{oneOf}
-use Rattle.model.specs.Good.{good}
+use Rattle.model.specs.Good.{good, badIn}
 use Rattle.model.specs.Step.{same}
-use Rattle.model.specs.Event.{numberOf, stepping, crash, event}
+use Rattle.model.specs.Event.{numberOf, answerCode, stepping, crash, event}
 
 pub record Order : Type 0 where
   pub port : ℕ
@@ -50,7 +50,7 @@ orders (suc n) xs = order (getD xs 0 0) (getD xs 1 0) ∷ orders n (drop 2 xs)
 
 -- what an order answers, in one number: the answer's, 256 times the cached and 65,536 times the distributed cost; and what a list of orders answers
 unfoldable pub codeOf : Outcome → ℕ
-codeOf o = numberOf (o .answer) + 256 * o .cached + 65536 * o .distributed
+codeOf o = answerCode (o .answer) + 256 * o .cached + 65536 * o .distributed
 
 unfoldable pub codes : Table → List Order → List ℕ
 codes t [] = []
@@ -62,7 +62,7 @@ abbrev pub ordersFor : List ℕ → List ℕ → List Order
 ordersFor xs places = orders (min (length xs / 2) (length places)) xs
 
 unfoldable pub run : Table → List Order → Made
-run t os = cond (good t) (record { table = ran t os; answer = Done }) (record { table = t; answer = BadTable })
+run t os = cond (good t) (record { table = ran t os; answer = Done }) (record { table = t; answer = BadTable (badIn t) })
 
 unfoldable pub runAnswers : Table → List Order → List ℕ → List ℕ
 runAnswers t os places = cond (good t) (sets places 0 (codes t os)) places

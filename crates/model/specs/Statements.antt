@@ -2,24 +2,28 @@
 -- and which sentence of the demands or of document 01 it is; the line below it names its proof.
 use mathlib.Core.Path.{_≡_, sym, subst, ap, _∙_}
 use mathlib.Core.Logic.{_≢_}
-use mathlib.Core.Bool.{true, false, _||_}
+use mathlib.Core.Bool.{true, false, _&&_, _||_}
 use mathlib.Core.List.{List, [], _∷_}
 use Prim.Native.Nat.{ℕ, _-_, _*_, _≤_, _<_, _^_}
 use Rattle.model.specs.declared.Table.{Table}
 use Rattle.model.specs.declared.Outcome.{Outcome}
 use Rattle.model.specs.declared.Made.{Made}
-use Rattle.model.specs.Table.{room, Sized, portAt, freshTable}
+use lib.ListN.{getD}
+use Rattle.model.specs.declared.Answer.the-variants.{BadTable}
+use Rattle.model.specs.Table.{room, sizeGood, Sized, portAt, freshTable}
 use Rattle.model.specs.Mask.{stands, joined, alone, added}
 use Rattle.model.specs.Ring.{next, distance}
 use Rattle.model.specs.Points.{none, p11, pointOf}
-use Rattle.model.specs.Good.{named, good}
+use Rattle.model.specs.Good.{named, whole, roomEmpty, rules, nowhere, good, badIn}
+use Rattle.model.specs.Layout.{size}
 use Rattle.model.specs.Cost.{free}
-use Rattle.model.specs.Event.{numberOf, enter, stepping, crash, event, fresh}
+use Rattle.model.specs.Event.{numberOf, enter, stepping, crash, refusal, event, fresh}
 use Rattle.model.specs.Run.{Order, order, after, ran, reached, Critical, run, runAnswers, done, stepsAt, passedOver, passageCost, stepless}
 use Rattle.model.specs.Paid.{paidEvent}
 use Rattle.model.specs.Laws.Mask.{set-own, set-other, cleared-own, cleared-other, joined-own, joined-other, alone-own, alone-other}
 use Rattle.model.specs.Laws.Ring.{distance-own, distance-le, next-stands, next-nearest}
 use Rattle.model.specs.Laws.Points.{unnamed, named-point}
+use Rattle.model.specs.Laws.Faults.{bad-event, good-other, lowest, bad-rule, bad-whole, bad-field, bad-inside}
 use Rattle.model.specs.Laws.Cases.{refused-free, orders-free}
 use Rattle.model.specs.Laws.After.{fresh-sized}
 use Rattle.model.specs.Laws.Kept.{good-fresh, good-after, good-ran, room-fits}
@@ -58,6 +62,32 @@ fresh-good = good-fresh
 
 pub event-good : (t : Table) (k e : ℕ) → Sized t → good t ≡ true → good (event t k e .table) ≡ true
 event-good t k e = good-after t (order k e)
+
+-- Request R-2. A table is good exactly when nothing is answered: an event on a bad one answers what is bad, and on a good one never number 1
+pub bad-answered : (t : Table) (k e : ℕ) → good t ≡ false → event t k e ≡ free (BadTable (badIn t)) t
+bad-answered = bad-event
+
+pub good-unanswered : (t : Table) (k e : ℕ) → good t ≡ true → numberOf (refusal t k e) ≢ 1
+good-unanswered = good-other
+
+-- 'the lowest place deciding': what is bad is the field of a rule that fails, and no rule that fails has a field with a lower place
+pub bad-fails : (t : Table) → good t ≡ false → (i : ℕ) × ((getD (rules t) i (true, whole) .0 ≡ false) × (badIn t ≡ getD (rules t) i (true, whole) .1))
+bad-fails = bad-rule
+
+pub bad-lowest : (t : Table) (i : ℕ) → getD (rules t) i (true, whole) .0 ≡ false → badIn t .place ≤ getD (rules t) i (true, whole) .1 .place
+unfolding badIn
+bad-lowest t = lowest nowhere (rules t)
+
+-- 'A D out of range, or room above D that isn't 0, is 1.0, before the rest, with port 0 and place 0': then, and only then
+pub bad-as-a-whole : (t : Table) → (sizeGood (t .shared .d) && roomEmpty t) ≡ false → badIn t ≡ whole
+bad-as-a-whole = bad-whole
+
+pub bad-in-a-field : (t : Table) → (sizeGood (t .shared .d) && roomEmpty t) ≡ true → good t ≡ false → 0 < badIn t .kind
+bad-in-a-field = bad-field
+
+-- 'the byte where the field begins in the image': it lies within the image
+pub bad-within : (t : Table) → good t ≡ false → badIn t .place < size (t .shared .d)
+bad-within = bad-inside
 
 -- 'A refused event gives costs 0 and the table it got'
 pub refused-nothing : (t : Table) (k e : ℕ) → (numberOf (event t k e .answer) ≡ 0 → ⊥) → event t k e ≡ free (event t k e .answer) t

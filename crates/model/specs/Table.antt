@@ -3,7 +3,7 @@ use mathlib.Core.Path.{_≡_}
 use mathlib.Core.Bool.{Bool, cond, not, _&&_}
 use mathlib.Core.List.{List}
 use Prim.Native.Nat.{ℕ}
-use lib.Dec.{eqb}
+use lib.Dec.{eqb, leb}
 use lib.ListN.{length, getD, set, replicate}
 use Rattle.model.specs.declared.Word.{Word}
 use Rattle.model.specs.declared.Work.{Work}
@@ -15,6 +15,10 @@ use Rattle.model.specs.declared.Table.{Table}
 -- how many ports a table has room for
 unfoldable pub room : ℕ
 room = 64
+
+-- D is 1 to the room
+unfoldable pub sizeGood : ℕ → Bool
+sizeGood d = leb 1 d && leb d room
 
 -- the most spins that a port makes
 unfoldable pub most : ℕ

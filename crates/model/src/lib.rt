@@ -113,10 +113,17 @@ pub struct Charge {
     pub distributed: u64,
 }
 
+// What is bad in a table (request R-2): 1.0 to 1.4 by its kind, the port, and the byte of the image where the field begins.
+pub struct Fault {
+    pub kind: u8,
+    pub port: u8,
+    pub place: u16,
+}
+
 // The answers of document 01, section 'Refusal numbers', in the order of their numbers.
 pub enum Answer {
     Done,
-    BadTable,
+    BadTable(Fault),
     NoSuchPort,
     NoSuchEvent,
     Busy,

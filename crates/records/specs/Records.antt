@@ -5,8 +5,8 @@ use Prim.Native.Nat.{ℕ, _+_}
 use lib.Dec.{leb}
 use lib.ListN.{length, drop, replicate}
 use lib.Seq.{sets}
-use Rattle.layout.specs.Bytes.{sum, pack, unpack}
-use Rattle.layout.specs.Layout.{dIn, isImage}
+use Rattle.model.specs.Bytes.{sum, pack, unpack}
+use Rattle.model.specs.Layout.{dIn, isImage}
 
 -- the values of the record at a place; none where the bytes end before it
 unfoldable pub there : List ℕ → ℕ → List ℕ → List ℕ

@@ -8,8 +8,8 @@ use Rattle.model.specs.declared.Port.{Port}
 use Rattle.model.specs.declared.Copies.{Copies}
 use Rattle.model.specs.declared.Shared.{Shared}
 use Rattle.model.specs.Statements.{one}
-use Rattle.layout.specs.Bytes.{sum}
-use Rattle.layout.specs.Layout.{sharedWidths, portWidths, setWidth, copiedWidths, copiesWidths, headWidths, sharedOf, portOf, copiesOf, portPlace, copiesPlace}
+use Rattle.model.specs.Bytes.{sum}
+use Rattle.model.specs.Layout.{sharedWidths, portWidths, setWidth, copiedWidths, copiesWidths, headWidths, sharedOf, portOf, copiesOf, portPlace, copiesPlace}
 use Rattle.records.specs.Records.{there, putAt, portsIn}
 
 pub ports-in-one : (bs : List ℕ) (r s : ℕ) → r ≡ portsIn bs → s ≡ portsIn bs → r ≡ s

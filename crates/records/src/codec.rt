@@ -5,7 +5,7 @@ ghost use Prim.Native.Nat.{_+_, _≤_, _<_};
 ghost use lib.Dec.{leb};
 ghost use lib.ListN.{length, take, drop};
 ghost use lib.Seq.{sets};
-ghost use Rattle.layout.specs.Bytes.{little, value, sum, pack, unpack};
+ghost use Rattle.model.specs.Bytes.{little, value, sum, pack, unpack};
 ghost use Rattle.records.specs.Records.{there, putAt};
 ghost use Rattle.records.specs.Laws.Rows.{same, narrow};
 

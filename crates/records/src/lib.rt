@@ -10,8 +10,8 @@ ghost use mathlib.Core.Path.{_≡_};
 ghost use mathlib.Core.List.{_∷_, []};
 ghost use Prim.Native.Nat.{_+_};
 ghost use lib.ListN.{getD};
-ghost use Rattle.layout.specs.Bytes.{sum};
-ghost use Rattle.layout.specs.Layout as Layout;
+ghost use Rattle.model.specs.Bytes.{sum};
+ghost use Rattle.model.specs.Layout as Layout;
 ghost use Rattle.layout.specs.Places as Places;
 ghost use Rattle.records.specs.Records as Records;
 

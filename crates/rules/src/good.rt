@@ -8,19 +8,19 @@ use points::places;
 ghost use mathlib.Core.Path.{_≡_};
 ghost use Prim.Native.Nat.{_≤_, _<_};
 ghost use lib.Bits.{bitOr};
-ghost use Rattle.model.specs.Table.{room};
-ghost use Rattle.model.specs.Good as Good;
+ghost use Rattle.model.specs.Table.{room, sizeGood};
+ghost use Rattle.model.specs.Parts.Good as Good;
 ghost use Rattle.model.specs.Parts.Rules as Rules;
 
 // Bit n stands where n is a point.
-const NAMED: u64 = 127 | 4095 << 8 | 63 << 20 | 63 << 30 | 63 << 40;
+pub const NAMED: u64 = 127 | 4095 << 8 | 63 << 20 | 63 << 30 | 63 << 40;
 
 // The most spins that a port makes.
 pub const MOST: u16 = 65535;
 
 // D is 1 to the room.
 pub fn size_good(d: u64) -> bool
-    ensures { λ r. ⌜ r ≡ Good.sizeGood d ⌝ }
+    ensures { λ r. ⌜ r ≡ sizeGood d ⌝ }
 {
     (1 <= d) & (d <= ROOM as u64)
 }
@@ -83,7 +83,7 @@ fn copies_good(d: u64, made: u16, c: Copies) -> bool
 
 // The rules for port k that look at no other port: fields, copy sets, own spin.
 pub fn own_good(s: Shared, k: u64, p: Port, c: Copies) -> bool
-    ensures { λ r. ⌜ r ≡ Rules.ownRules s k p c ⌝ }
+    ensures { λ r. ⌜ r ≡ Rules.ownTests s k p c ⌝ }
 {
     let own = p.work.own;
     if !fields_good(s.active, k, p) {
@@ -100,14 +100,14 @@ pub fn own_good(s: Shared, k: u64, p: Port, c: Copies) -> bool
 
 // What a port has seen, at a point without a place for it.
 pub fn unseen_good(d: u64, w: Work) -> bool
-    ensures { λ r. ⌜ r ≡ Rules.unseenRules d w ⌝ }
+    ensures { λ r. ⌜ r ≡ Rules.unseenTests d w ⌝ }
 {
     (0 < d) & ((w.seenowner | w.candidate) == 0) & ((w.seenspin | w.candidatespin) == 0)
 }
 
 // What a port has seen, at the other points, with made of its seen owner and of its candidate.
 pub fn seen_good(d: u64, point: u8, seenmade: u16, candidatemade: u16, w: Work) -> bool
-    ensures { λ r. ⌜ r ≡ Rules.seenRules d point seenmade candidatemade w ⌝ }
+    ensures { λ r. ⌜ r ≡ Rules.seenTests d point seenmade candidatemade w ⌝ }
 {
     (wide(w.seenowner) < d)
         & (wide(w.candidate) < d)
@@ -120,7 +120,7 @@ pub fn seen_good(d: u64, point: u8, seenmade: u16, candidatemade: u16, w: Work) 
 
 // All rules for port k, with made of its seen owner and of its candidate.
 pub fn port_good(s: Shared, k: u64, p: Port, c: Copies, seenmade: u16, candidatemade: u16) -> bool
-    ensures { λ r. ⌜ r ≡ Rules.portRules s k p c seenmade candidatemade ⌝ }
+    ensures { λ r. ⌜ r ≡ Rules.portTests s k p c seenmade candidatemade ⌝ }
 {
     if !own_good(s, k, p, c) {
         return false;

@@ -117,6 +117,77 @@ fn below_d(random: &mut Random, d: u64) -> u64 {
     }
 }
 
+/// A table of `d` ports with one to three fields changed, so that mostly it is bad. Every set of it has a place in the image.
+pub fn bad_table(random: &mut Random, d: u64) -> Table {
+    let mut t = good_table(random, d);
+    for _ in 0..random.one_of(&[1, 1, 1, 2, 3]) {
+        change(random, &mut t, d);
+    }
+    t
+}
+
+/// Changes a field of what all share, of a port, or a copy set.
+fn change(random: &mut Random, t: &mut Table, d: u64) {
+    let k = random.below(d) as usize;
+    let made = |j: u8| t.ports.get(usize::from(j)).map_or(0, |port| port.made);
+    let (word, port) = (t.word, t.ports[k]);
+    match random.below(20) {
+        0 => t.active = any_set(random, d, 64),
+        1 => t.word.taken = any_byte(random, d),
+        2 => t.word.owner = any_byte(random, d),
+        3 => t.word.spin = any_spin(random, made(word.owner)),
+        4 => t.ports[k].point = random.one_of(&POINTS),
+        5 => t.ports[k].point = any_byte(random, 7),
+        6 => t.ports[k].status = any_byte(random, d),
+        7 => t.ports[k].flag = any_byte(random, d),
+        8 => t.ports[k].value = any_byte(random, d),
+        9 => t.ports[k].made = any_spin(random, port.made),
+        10 => t.ports[k].go = any_spin(random, port.made),
+        11 => t.ports[k].own_spin = any_spin(random, port.made),
+        12 => t.ports[k].seen_owner = any_byte(random, d),
+        13 => t.ports[k].seen_spin = any_spin(random, made(port.seen_owner)),
+        14 => t.ports[k].candidate = any_byte(random, d),
+        15 => t.ports[k].candidate_spin = any_spin(random, made(port.candidate)),
+        16 => t.active_copies = any_set(random, d, set_bits(d)),
+        17 => t.word_copies = any_set(random, d, set_bits(d)),
+        18 => t.copies[k].status = any_set(random, d, set_bits(d)),
+        _ => {
+            t.copies[k].go = any_set(random, d, set_bits(d));
+            t.copies[k].spin = any_set(random, d, set_bits(d));
+        }
+    }
+}
+
+/// The bits of a copy set in the image of `d` ports.
+fn set_bits(d: u64) -> u64 {
+    if d <= NARROW {
+        16
+    } else {
+        64
+    }
+}
+
+/// A set of ports below D, or of any of so many, or of one at D or above.
+fn any_set(random: &mut Random, d: u64, bits: u64) -> u64 {
+    match random.below(3) {
+        0 => below_d(random, d),
+        1 => below_d(random, bits),
+        _ => 1 << random.below(bits).max(d.min(bits - 1)),
+    }
+}
+
+/// A byte, mostly around the ends of a range.
+fn any_byte(random: &mut Random, d: u64) -> u8 {
+    let (d, any) = (d as u8, random.number() as u8);
+    random.one_of(&[0, 1, 2, 3, 4, d - 1, d, d + 1, 0xFF, any])
+}
+
+/// A spin number around those up to `made`.
+fn any_spin(random: &mut Random, made: u16) -> u16 {
+    let (above, any) = (made.saturating_add(1), random.number() as u16);
+    random.one_of(&[0, 1, made, made / 2, above, above, any])
+}
+
 /// The most ports of an image of version 1.
 const NARROW: u64 = 16;
 

@@ -1,9 +1,11 @@
 //! The comparisons. Each gives how many answers were compared, or tells the first difference.
 
 use crate::engine::{Engine, Reference};
-use crate::generate::{any_order, damaged, good_table, room_for, schedule, size, Mood};
+use crate::generate::{any_order, bad_table, damaged, good_table, room_for, schedule, size, Mood};
+use crate::met::Met;
 use crate::random::Random;
-use reference::{length, write, Table, LONGEST, ROOM};
+use reference::number::BAD_TABLE;
+use reference::{image, length, LONGEST, ROOM};
 
 /// A difference between an engine and the reference, told so that it can be tried again.
 pub type Difference = String;
@@ -16,19 +18,22 @@ fn hex(bytes: &[u8]) -> String {
     bytes.iter().map(|b| format!("{b:02x}")).collect()
 }
 
-/// The image of a good table.
-fn image(t: &Table) -> Vec<u8> {
-    let mut room = [0; LONGEST];
-    let (number, long) = write(t, &mut room);
-    assert_eq!(number, 0, "the generator made a bad table");
-    room[..long].to_vec()
+/// The parts of an answer.
+fn parts(answer: u64) -> String {
+    let part = |from: u32| answer >> from & 255;
+    let (number, place) = (part(0), answer >> 24);
+    match number {
+        BAD_TABLE => format!("1.{}, port {}, byte {place}", part(8), part(16)),
+        _ => format!("{number}, {}, {}, {place}", part(8), part(16)),
+    }
 }
 
-/// Nothing, or how two numbers differ.
+/// Nothing, or how two answers differ: in their number or costs, or in kind, port or place of what is bad.
 fn same(what: impl Fn() -> String, got: u64, want: u64) -> Result<(), Difference> {
     if got == want {
         Ok(())
     } else {
+        let (got, want) = (parts(got), parts(want));
         Err(format!("{}: answer {got}, want {want}", what()))
     }
 }
@@ -246,6 +251,51 @@ pub fn images(engine: &impl Engine, seed: u64, tables: u64) -> Result<u64, Diffe
     Ok(count)
 }
 
+/// Tables that break one rule or several: what the check says is bad, and that an event, one into another room and a run say the
+/// same and leave every byte. A rule that never decides alone, in either version, is told too.
+pub fn bad_tables(engine: &impl Engine, seed: u64, tables: u64) -> Result<u64, Difference> {
+    let mut random = Random::new(seed);
+    let mut met = Met::new();
+    let mut count = 0;
+    while count < tables {
+        let d = size(&mut random);
+        let t = bad_table(&mut random, d);
+        let (port, order) = any_order(&mut random, d);
+        if let Some(fault) = met.look(&t) {
+            refused(engine, &image(&t), fault.answer(), port, order)?;
+            count += 1;
+        }
+    }
+    match met.missing()[..] {
+        [] => Ok(4 * count),
+        ref missing => Err(format!("{count} bad tables, and none for {missing:?}")),
+    }
+}
+
+/// Everything that looks at an image gives one answer that refuses it, and leaves every byte.
+fn refused(
+    engine: &impl Engine,
+    image: &[u8],
+    want: u64,
+    port: u64,
+    order: u64,
+) -> Result<(), Difference> {
+    let (mut held, mut next) = (image.to_vec(), vec![FILL; image.len()]);
+    let mut told = [FILL_ANSWER; 2];
+    let what = |call| move || format!("{call}, event {order} of port {port}, on {}", hex(image));
+    same(what("check"), engine.check(image), want)?;
+    same(what("event"), engine.event(&mut held, port, order), want)?;
+    let into = engine.event_into(image, &mut next, port, order);
+    same(what("event into"), into, want)?;
+    let run = engine.run(&mut held, &[port, order], &mut told);
+    same(what("run"), run, want)?;
+    same_bytes(what("the image"), &held, image)?;
+    same_bytes(what("the room"), &next, &vec![FILL; image.len()])?;
+    let [one, two] = told;
+    same(what("an answer"), one, FILL_ANSWER)?;
+    same(what("an answer"), two, FILL_ANSWER)
+}
+
 /// Every value of every byte of one image of `d` ports.
 pub fn every_byte(engine: &impl Engine, seed: u64, d: u64) -> Result<u64, Difference> {
     let mut random = Random::new(seed);
@@ -272,6 +322,7 @@ pub fn all(engine: &impl Engine, seed: u64, total: u64) -> Result<u64, Differenc
     count += schedules(engine, seed, total / 4 / 500, 500)?;
     count += runs(engine, seed, total / 4 / 200, 400)?;
     count += images(engine, seed, total / 16)?;
+    count += bad_tables(engine, seed, total / 16)?;
     count += every_byte(engine, seed, 17)?;
     Ok(count)
 }

@@ -241,6 +241,22 @@ enum Other {
     IntoWantsMore,
     /// An event into another room puts the image as it was.
     IntoPutsTheOld,
+    /// The check says BAD TABLE without what is bad.
+    CheckSaysNoMore,
+    /// An event does.
+    EventSaysNoMore,
+    /// An event into another room does.
+    IntoSaysNoMore,
+    /// A run does.
+    RunSaysNoMore,
+}
+
+/// An answer of BAD TABLE without what is bad.
+fn no_more(answer: u64) -> u64 {
+    match answer & 255 {
+        BAD_TABLE => BAD_TABLE,
+        _ => answer,
+    }
 }
 
 /// Whether bytes are as long as version 1 or 2 has it, whatever their D.
@@ -273,7 +289,7 @@ impl Engine for Other {
                 let short = &image[..image.len().min(reference::length(d))];
                 Reference.check(short)
             }
-            Other::SparesCopies if number == BAD_TABLE => {
+            Other::SparesCopies if number & 255 == BAD_TABLE => {
                 let mut mended = image.to_vec();
                 let d = usize::from(image[1]);
                 let width = if d <= 16 { 2 } else { 8 };
@@ -294,16 +310,20 @@ impl Engine for Other {
             Other::EitherForm if number == BAD_IMAGE && whole_by_its_form(image) => {
                 Reference.check(&generate::other_version(image))
             }
+            Other::CheckSaysNoMore => no_more(number),
             _ => number,
         }
     }
 
     fn event(&self, image: &mut [u8], port: u64, event: u64) -> u64 {
         let answer = Reference.event(image, port, event);
-        if matches!(self, Other::ChangesRefused) && answer == BAD_TABLE {
+        if matches!(self, Other::ChangesRefused) && answer & 255 == BAD_TABLE {
             image[14] ^= 1;
         }
-        answer
+        match self {
+            Other::EventSaysNoMore => no_more(answer),
+            _ => answer,
+        }
     }
 
     fn event_into(&self, image: &[u8], next: &mut [u8], port: u64, event: u64) -> u64 {
@@ -323,6 +343,7 @@ impl Engine for Other {
                 return SHORT_ROOM;
             }
             Other::IntoPutsTheOld if done => next[..long].copy_from_slice(image),
+            Other::IntoSaysNoMore => return no_more(answer),
             _ => {}
         }
         answer
@@ -340,6 +361,7 @@ impl Engine for Other {
             }
             Other::TellsRefused if number != DONE => answers.fill(number),
             Other::ForgetsImage => image.copy_from_slice(&before),
+            Other::RunSaysNoMore => return no_more(number),
             _ => {}
         }
         number
@@ -365,6 +387,10 @@ fn every_mistake_elsewhere_is_noticed() {
         ("into puts a part", Other::IntoPutsAPart),
         ("into wants more", Other::IntoWantsMore),
         ("into puts the old", Other::IntoPutsTheOld),
+        ("check says no more", Other::CheckSaysNoMore),
+        ("event says no more", Other::EventSaysNoMore),
+        ("into says no more", Other::IntoSaysNoMore),
+        ("run says no more", Other::RunSaysNoMore),
     ];
     for (name, other) in others {
         let told = harness::all(&other, SEED, EVENTS);

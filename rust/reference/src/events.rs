@@ -1,9 +1,9 @@
 //! Fresh tables, and events with their refusals.
 
 use crate::costs::charge;
-use crate::good::good;
 use crate::number::*;
 use crate::order::*;
+use crate::rules::bad;
 use crate::steps::step;
 use crate::table::{Port, Table, ROOM};
 use crate::words::{Words, WordsMut};
@@ -16,11 +16,11 @@ pub fn fresh(d: u64) -> (u64, Table) {
     }
 }
 
-/// Carries out an event: the answer's number, the cached and the distributed cost.
+/// Carries out an event: the answer, the cached and the distributed cost.
 /// A refused event costs nothing and leaves the table as it is.
 pub fn event(t: &mut Table, port: u64, event: u64) -> (u64, u64, u64) {
-    if !good(t) {
-        return (BAD_TABLE, 0, 0);
+    if let Some(fault) = bad(t) {
+        return (fault.answer(), 0, 0);
     }
     event_unchecked(t, port, event)
 }
@@ -30,9 +30,9 @@ pub fn event_unchecked(t: &mut Table, port: u64, event: u64) -> (u64, u64, u64) 
     act(t, port, event)
 }
 
-/// Number, cached and distributed cost as one answer, as the boundary gives it.
-pub fn packed((number, cached, distributed): (u64, u64, u64)) -> u64 {
-    number + 256 * cached + 65536 * distributed
+/// Answer, cached and distributed cost in one number, as the boundary gives it.
+pub fn packed((answer, cached, distributed): (u64, u64, u64)) -> u64 {
+    answer + 256 * cached + 65536 * distributed
 }
 
 /// An event on the words of a good table.

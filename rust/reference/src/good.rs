@@ -7,12 +7,19 @@ use crate::words::{Cell, Words};
 
 /// Whether a table is good: D and the room above it, and the rules for the words of its ports.
 pub fn good(t: &Table) -> bool {
+    // Every later rule indexes ports below D.
+    in_range(t) && sound(t) && room_empty(t)
+}
+
+/// D is among those named.
+pub(crate) fn in_range(t: &Table) -> bool {
+    (1..=ROOM).contains(&(t.d as usize))
+}
+
+/// Room kept for ports at or above D is all 0.
+pub(crate) fn room_empty(t: &Table) -> bool {
     let d = t.d as usize;
-    // D is among those named; every later rule indexes ports below D.
-    (1..=ROOM).contains(&d)
-        && sound(t)
-        // Room kept for ports at or above D is all 0.
-        && t.ports[d..].iter().all(|p| *p == Port::default())
+    t.ports[d..].iter().all(|p| *p == Port::default())
         && t.copies[d..].iter().all(|c| *c == Copies::default())
 }
 
@@ -34,7 +41,7 @@ pub(crate) fn sound(words: &impl Words) -> bool {
 }
 
 /// The bits at `d` or above.
-fn beyond(d: usize) -> u64 {
+pub(crate) fn beyond(d: usize) -> u64 {
     u64::MAX.checked_shl(d as u32).unwrap_or(0)
 }
 

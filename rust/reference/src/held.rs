@@ -1,6 +1,9 @@
 //! The words of a lock in the bytes of its image.
 
-use crate::layout::{narrow, port_place, set_place, ACTIVE_PLACE, PORT, WORD_PLACE};
+use crate::layout::record::*;
+use crate::layout::{
+    narrow, port_place, set_place, ACTIVE_PLACE, OWNER_PLACE, PORT, SPIN_PLACE, TAKEN_PLACE,
+};
 use crate::table::{Port, Word};
 use crate::words::{Cell, Words, WordsMut};
 use std::ops::{Deref, DerefMut};
@@ -27,18 +30,6 @@ impl<B: Deref<Target = [u8]>> Held<B> {
                 .expect("a place in the image"),
         )
     }
-
-    /// Where a copy set stands.
-    fn set_place(&self, cell: Cell) -> usize {
-        let number = match cell {
-            Cell::Active => 0,
-            Cell::Word => 1,
-            Cell::Status(k) => 2 + 3 * k,
-            Cell::Go(k) => 3 + 3 * k,
-            Cell::Spin(k) => 4 + 3 * k,
-        };
-        set_place(self.d, number)
-    }
 }
 
 impl<B: DerefMut<Target = [u8]>> Held<B> {
@@ -58,9 +49,9 @@ impl<B: Deref<Target = [u8]>> Words for Held<B> {
 
     fn word(&self) -> Word {
         Word {
-            taken: self.bytes[WORD_PLACE],
-            owner: self.bytes[WORD_PLACE + 1],
-            spin: self.two(WORD_PLACE + 2),
+            taken: self.bytes[TAKEN_PLACE],
+            owner: self.bytes[OWNER_PLACE],
+            spin: self.two(SPIN_PLACE),
         }
     }
 
@@ -72,7 +63,7 @@ impl<B: Deref<Target = [u8]>> Words for Held<B> {
     // The rules ask for three sets of each port: without the hint each is a call.
     #[inline]
     fn copies(&self, cell: Cell) -> u64 {
-        let at = self.set_place(cell);
+        let at = set_place(self.d, cell);
         if narrow(self.d) {
             u64::from(self.two(at))
         } else {
@@ -88,7 +79,7 @@ impl<B: DerefMut<Target = [u8]>> WordsMut for Held<B> {
 
     fn set_word(&mut self, word: Word) {
         let [low, high] = word.spin.to_le_bytes();
-        self.put(WORD_PLACE, &[word.taken, word.owner, low, high]);
+        self.put(TAKEN_PLACE, &[word.taken, word.owner, low, high]);
     }
 
     fn set_port(&mut self, k: usize, port: Port) {
@@ -96,7 +87,7 @@ impl<B: DerefMut<Target = [u8]>> WordsMut for Held<B> {
     }
 
     fn renew(&mut self, cell: Cell, change: impl FnOnce(u64) -> u64) -> u64 {
-        let at = self.set_place(cell);
+        let at = set_place(self.d, cell);
         if narrow(self.d) {
             let before = u64::from(self.two(at));
             self.put(at, &(change(before) as u16).to_le_bytes());
@@ -113,17 +104,17 @@ impl<B: DerefMut<Target = [u8]>> WordsMut for Held<B> {
 fn unpacked(record: &[u8; PORT]) -> Port {
     let two = |at: usize| u16::from_le_bytes([record[at], record[at + 1]]);
     Port {
-        point: record[0],
-        status: record[1],
-        flag: record[2],
-        value: record[3],
-        made: two(4),
-        go: two(6),
-        own_spin: two(8),
-        seen_owner: record[10],
-        seen_spin: two(11),
-        candidate: record[13],
-        candidate_spin: two(14),
+        point: record[POINT],
+        status: record[STATUS],
+        flag: record[FLAG],
+        value: record[VALUE],
+        made: two(MADE),
+        go: two(GO),
+        own_spin: two(OWN_SPIN),
+        seen_owner: record[SEEN_OWNER],
+        seen_spin: two(SEEN_SPIN),
+        candidate: record[CANDIDATE],
+        candidate_spin: two(CANDIDATE_SPIN),
     }
 }
 

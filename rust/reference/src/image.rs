@@ -1,17 +1,17 @@
 //! Images: the writer and the reader.
 
-use crate::good::good;
 use crate::held::Held;
 use crate::layout::{contents, length, version, CONTENTS_PLACE, D_PLACE, VERSION_PLACE};
 use crate::number::*;
+use crate::rules::bad;
 use crate::table::{Table, ROOM};
 use crate::words::WordsMut;
 
-/// Writes the image of a table at the start of `room`: the number and the image's length.
+/// Writes the image of a table at the start of `room`: the answer and the image's length.
 /// Refused (`BAD_TABLE`, then `SHORT_ROOM`), the room stays as it is and the length is 0.
 pub fn write(t: &Table, room: &mut [u8]) -> (u64, usize) {
-    if !good(t) {
-        return (BAD_TABLE, 0);
+    if let Some(fault) = bad(t) {
+        return (fault.answer(), 0);
     }
     let long = length(t.d as usize);
     let Some(image) = room.get_mut(..long) else {
@@ -19,6 +19,13 @@ pub fn write(t: &Table, room: &mut [u8]) -> (u64, usize) {
     };
     encode(t, image);
     (DONE, long)
+}
+
+/// The image that a write of a table would give, good or not, but for its D, which is 1 to 64.
+pub fn image(t: &Table) -> Vec<u8> {
+    let mut bytes = vec![0; length(t.d as usize)];
+    encode(t, &mut bytes);
+    bytes
 }
 
 /// Puts the image of a table whose D has room, good or not, in bytes that are as long.
@@ -47,20 +54,20 @@ fn entries(d: usize) -> impl Iterator<Item = (usize, u16)> {
         .map(|(i, number)| (CONTENTS_PLACE + 2 * i, number as u16))
 }
 
-/// Reads an image: the number and the table.
+/// Reads an image: the answer and the table.
 /// Refused (`BAD_IMAGE`, then `BAD_TABLE`), the table is the fresh one of one port.
 pub fn read(bytes: &[u8]) -> (u64, Table) {
-    let Some(t) = decode(bytes) else {
+    let Some(t) = table(bytes) else {
         return (BAD_IMAGE, Table::first(1));
     };
-    if !good(&t) {
-        return (BAD_TABLE, Table::first(1));
+    if let Some(fault) = bad(&t) {
+        return (fault.answer(), Table::first(1));
     }
     (DONE, t)
 }
 
 /// The table that an image holds, good or not; none if length, version, D or contents are wrong.
-fn decode(bytes: &[u8]) -> Option<Table> {
+pub fn table(bytes: &[u8]) -> Option<Table> {
     let d = ports(bytes)?;
     let mut t = Table::first(d as u8);
     t.set_all(&Held::new(d, bytes));

@@ -2,11 +2,11 @@
 //! [`crate::boundary`] do.
 
 use crate::events::{act, admitted, packed};
-use crate::good::sound;
 use crate::held::Held;
 use crate::image::{ports, put_head};
 use crate::layout::length;
 use crate::number::*;
+use crate::rules::bad_words;
 use crate::table::ROOM;
 
 /// Writes the image of a fresh table, which is its head and then zeros: number + 256 * the image's length.
@@ -23,21 +23,20 @@ pub fn fresh(d: u64, room: &mut [u8]) -> u64 {
     DONE + 256 * long as u64
 }
 
-/// The reader's number.
+/// The reader's answer.
 pub fn check(image: &[u8]) -> u64 {
     match checked(image) {
         Ok(_) => DONE,
-        Err(number) => number,
+        Err(refusal) => refusal,
     }
 }
 
 /// D of the image of a good table, or the reader's refusal.
 fn checked(image: &[u8]) -> Result<usize, u64> {
     let d = ports(image).ok_or(BAD_IMAGE)?;
-    if sound(&Held::new(d, image)) {
-        Ok(d)
-    } else {
-        Err(BAD_TABLE)
+    match bad_words(&Held::new(d, image)) {
+        None => Ok(d),
+        Some(fault) => Err(fault.answer()),
     }
 }
 
@@ -45,7 +44,7 @@ fn checked(image: &[u8]) -> Result<usize, u64> {
 pub fn event(image: &mut [u8], port: u64, event: u64) -> u64 {
     match checked(image) {
         Ok(d) => act_in(image, d, port, event),
-        Err(number) => number,
+        Err(refusal) => refusal,
     }
 }
 
@@ -53,7 +52,7 @@ pub fn event(image: &mut [u8], port: u64, event: u64) -> u64 {
 pub fn event_into(image: &[u8], next: &mut [u8], port: u64, event: u64) -> u64 {
     let d = match checked(image) {
         Ok(d) => d,
-        Err(number) => return number,
+        Err(refusal) => return refusal,
     };
     if let Err(number) = admitted(&Held::new(d, image), port, event) {
         return number;
@@ -65,11 +64,11 @@ pub fn event_into(image: &[u8], next: &mut [u8], port: u64, event: u64) -> u64 {
     act_in(next, d, port, event)
 }
 
-/// Carries out pairs of port and event on an image with one look at it: the reader's number.
+/// Carries out pairs of port and event on an image with one look at it: the reader's answer.
 pub fn run(image: &mut [u8], orders: &[u64], answers: &mut [u64]) -> u64 {
     let d = match checked(image) {
         Ok(d) => d,
-        Err(number) => return number,
+        Err(refusal) => return refusal,
     };
     for (order, answer) in orders.chunks_exact(2).zip(answers) {
         *answer = act_in(image, d, order[0], order[1]);

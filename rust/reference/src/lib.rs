@@ -1,4 +1,4 @@
-//! Document 01 with request R-1 in plain Rust: the table of one lock, its events and costs, images and listings.
+//! Document 01 with requests in plain Rust: the table of one lock, its events and costs, images and listings.
 //!
 //! It is written from the documents alone, so that the proved engine can be compared with it. Nothing here is proved.
 
@@ -7,6 +7,7 @@
 pub mod boundary;
 mod costs;
 mod events;
+mod fault;
 mod good;
 mod held;
 mod image;
@@ -14,14 +15,17 @@ pub mod in_place;
 mod layout;
 pub mod listing;
 pub mod points;
+mod rules;
 mod steps;
 mod table;
 mod words;
 
 pub use events::{event, event_unchecked, fresh, packed};
+pub use fault::Fault;
 pub use good::good;
-pub use image::{read, write};
+pub use image::{image, read, table, write};
 pub use layout::{length, LONGEST};
+pub use rules::{bad, rules, Rule};
 pub use steps::next;
 pub use table::{Copies, Port, Table, Word, ROOM};
 
@@ -51,7 +55,7 @@ pub mod order {
     pub const LEAVE: u64 = 5;
 }
 
-/// Refusal numbers.
+/// Refusal numbers. An answer of `BAD_TABLE` also has what is bad, as [`Fault::answer`] puts it.
 pub mod number {
     /// Carried out.
     pub const DONE: u64 = 0;

@@ -61,9 +61,11 @@ fn the_lowest_refusal_is_given() {
     assert_eq!(event(&mut t, 2, 6), (NO_SUCH_PORT, 0, 0));
     t.word.taken = 2;
     let bad = t;
-    assert_eq!(event(&mut t, 2, 6), (BAD_TABLE, 0, 0));
+    // 1.1, D, and the byte of taken.
+    let answer = BAD_TABLE | 1 << 8 | 2 << 16 | 22 << 24;
+    assert_eq!(event(&mut t, 2, 6), (answer, 0, 0));
     assert_eq!(t, bad);
-    assert_eq!(write(&t, &mut []), (BAD_TABLE, 0));
+    assert_eq!(write(&t, &mut []), (answer, 0));
 }
 
 #[test]

@@ -2,7 +2,7 @@
 
 use reference::number::*;
 use reference::order::*;
-use reference::{event, fresh, good, in_place, points, read, write, Table, LONGEST, ROOM};
+use reference::{bad, event, fresh, good, in_place, points, read, write, Table, LONGEST, ROOM};
 
 const D: usize = 5;
 
@@ -32,10 +32,11 @@ fn named() -> Vec<u8> {
     all
 }
 
-/// Whether `at(point)` stays good under a change.
+/// Whether `at(point)` stays good under a change: nothing is bad then.
 fn stays(point: u8, change: impl Fn(&mut Table)) -> bool {
     let mut t = at(point);
     change(&mut t);
+    assert_eq!(good(&t), bad(&t).is_none());
     good(&t)
 }
 
@@ -275,7 +276,9 @@ fn a_bad_table_is_refused_and_stays() {
         t.ports[2].status = 4;
         let before = t;
         for order in 0..=6 {
-            assert_eq!(event(&mut t, 2, order), (BAD_TABLE, 0, 0));
+            // 1.2 at port 2, whose STATUS is the second byte of its record.
+            let answer = BAD_TABLE | 2 << 8 | 2 << 16 | (26 + 32 + 1) << 24;
+            assert_eq!(event(&mut t, 2, order), (answer, 0, 0));
             assert_eq!(t, before);
         }
     }
@@ -384,9 +387,9 @@ fn every_damaged_byte_of_an_image_is_noticed_or_read() {
 
 /// An image with a damage at `place`: the reader notices it, or gives the table of which it is the image.
 fn damaged(image: &[u8], place: usize) {
-    let (number, table) = read(image);
-    assert_eq!(in_place::check(image), number);
-    match number {
+    let (answer, table) = read(image);
+    assert_eq!(in_place::check(image), answer);
+    match answer & 255 {
         DONE => {
             let mut again = [0; LONGEST];
             assert_eq!(write(&table, &mut again), (DONE, image.len()));
@@ -394,8 +397,8 @@ fn damaged(image: &[u8], place: usize) {
         }
         BAD_TABLE | BAD_IMAGE => {
             assert_eq!(table, fresh(1).1);
-            assert_eq!(number == BAD_IMAGE, place < 14);
+            assert_eq!(answer == BAD_IMAGE, place < 14);
         }
-        _ => panic!("number {number}"),
+        number => panic!("number {number}"),
     }
 }

@@ -26,12 +26,14 @@
 #![deny(unsafe_op_in_unsafe_fn)]
 
 mod answer;
+mod field;
 mod lock;
 pub mod sys;
 
 use std::slice;
 
 pub use answer::{Answer, Costs, Refusal};
+pub use field::{fields, Field, Kind};
 pub use lock::{Image, Lock};
 
 /// The most ports that a table has.
@@ -171,7 +173,7 @@ pub fn fresh(d: u64, room: &mut [u8]) -> Result<usize, Refusal> {
 }
 
 /// Looks whether bytes are an image of a good table, and so can be used; not whether they were changed since they were
-/// written. They are exactly [`image_length`] of its D, else `BadImage`.
+/// written. They are exactly [`image_length`] of its D, else `BadImage`; `BadTable` says what is bad.
 ///
 /// ```
 /// use yarvelow::{check, fresh, Refusal, LONGEST};

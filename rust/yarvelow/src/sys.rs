@@ -3,7 +3,7 @@
 extern "C" {
     /// Writes the image of a fresh table: number + 256 * the image's length.
     pub fn yarvelow_fresh(d: u64, room: *mut u8, length: usize) -> u64;
-    /// The reader's number.
+    /// The reader's answer. Of BAD TABLE here and below: 1 + 256 * kind + 65536 * port + 16777216 * place.
     pub fn yarvelow_check(image: *const u8, length: usize) -> u64;
     /// Carries out an event: number + 256 * cached + 65536 * distributed.
     pub fn yarvelow_event(image: *mut u8, length: usize, port: u64, event: u64) -> u64;
@@ -16,7 +16,7 @@ extern "C" {
         port: u64,
         event: u64,
     ) -> u64;
-    /// Carries out pairs of port and event, with one check: the reader's number.
+    /// Carries out pairs of port and event, with one check: the reader's answer.
     pub fn yarvelow_run(
         image: *mut u8,
         length: usize,

@@ -58,6 +58,13 @@ static void answers(uint8_t *image, uint64_t port, uint64_t event, enum yarvelow
     must(yarvelow_number_of(yarvelow_event(image, YARVELOW_IMAGE(2), port, event)) == number, what, 2);
 }
 
+/* What is bad in an image of two ports, by the parts of an answer. */
+static void bad(uint64_t answer, unsigned kind, unsigned port, size_t place, const char *what) {
+    must(yarvelow_number_of(answer) == YARVELOW_BAD_TABLE && yarvelow_cached_of(answer) == 0, what, 2);
+    must(yarvelow_kind_of(answer) == kind && yarvelow_port_of(answer) == port, what, 2);
+    must(yarvelow_place_of(answer) == place, what, 2);
+}
+
 /* Every event as it should be carried out, and every refusal. */
 static void numbers(void) {
     uint8_t image[YARVELOW_IMAGE(2)];
@@ -91,9 +98,12 @@ static void numbers(void) {
     must(image[YARVELOW_POINT(0)] == 13, "the point after a leave", 2);
     image[YARVELOW_MADE(1)] = image[YARVELOW_MADE(1) + 1] = 255;
     answers(image, 1, YARVELOW_ENTER, YARVELOW_WORN, "all spins made");
-    image[YARVELOW_STATUS(1)] = 4;
-    must(yarvelow_check(image, sizeof image) == YARVELOW_BAD_TABLE, "no such STATUS", 2);
     must(yarvelow_check(image, 0) == YARVELOW_BAD_IMAGE, "no bytes", 2);
+    image[YARVELOW_STATUS(1)] = 4;
+    bad(yarvelow_check(image, sizeof image), 2, 1, YARVELOW_STATUS(1), "no such STATUS");
+    bad(yarvelow_event(image, sizeof image, 9, 9), 2, 1, YARVELOW_STATUS(1), "an event without STATUS");
+    image[YARVELOW_OWNER] = 2;
+    bad(yarvelow_check(image, sizeof image), 1, 2, YARVELOW_OWNER, "no such owner");
 }
 
 /* A run answers what its events do. */

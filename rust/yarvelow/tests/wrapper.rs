@@ -9,10 +9,10 @@ use yarvelow::{
 fn numbers_and_names() {
     for (i, refusal) in Refusal::ALL.into_iter().enumerate() {
         assert_eq!(refusal.number() as usize, i + 1);
-        assert_eq!(Refusal::with_number(refusal.number()), Some(refusal));
+        assert_eq!(Refusal::of(refusal.number().into()), Some(refusal));
     }
-    assert_eq!(Refusal::with_number(0), None);
-    assert_eq!(Refusal::with_number(12), None);
+    assert_eq!(Refusal::of(0), None);
+    assert_eq!(Refusal::of(12), None);
     assert_eq!(Refusal::NoSuchPort.to_string(), "2 NO SUCH PORT");
 }
 

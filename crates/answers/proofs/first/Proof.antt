@@ -3,9 +3,9 @@ use mathlib.Core.Path.{_≡_, sym, ap, _∙_}
 use mathlib.Core.Bool.{true, false, _&&_}
 use borrow.Author.Tests.{le-leb, lt-leb, not-true, not-false}
 use Rattle.model.specs.Mask.{within}
-use Rattle.model.specs.Good.{sizeGood}
+use Rattle.model.specs.Table.{sizeGood}
 use Rattle.model.specs.Event.{numberOf, firstOf}
-use Rattle.model.specs.Paid.{placed, paidAnswer}
+use Rattle.model.specs.Paid.{paidAnswer}
 use Rattle.answers.proofs.first.Statement.{statement}
 use Rattle.answers.proofs.first.Tie as tie
 

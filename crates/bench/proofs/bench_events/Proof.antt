@@ -9,9 +9,9 @@ use Rattle.model.specs.declared.Outcome.{Outcome}
 use Rattle.model.specs.declared.Answer.the-variants.{Done}
 use Rattle.model.specs.Event.{numberOf}
 use Rattle.model.specs.Good.{good}
-use Rattle.model.specs.Run.{codeOf}
 use Rattle.model.specs.Laws.Fees.{event-cost}
 use Rattle.model.specs.Laws.Kept.{made-good, made-sized}
+use Rattle.lock.specs.Single.{plainOf, event-code}
 use Rattle.lock.specs.Turns.{Running, places, begins, turned, run-ends}
 use Rattle.bench.proofs.bench_events.Statement.{statement}
 use Rattle.bench.proofs.bench_events.Tie as tie
@@ -75,12 +75,13 @@ loop-less : tie.Need-loop-less Inv-loop μ-loop
 loop-less c = omega (arith, c .before .before .before .before .before .loop-test .taken)
 
 loop-again : tie.Need-loop-again Inv-loop μ-loop
-unfolding codeOf
 loop-again c =
     let k = c .before .before .before .before .before in
     let l = k .before .loop in
     let e = c .before .before .event .ensures in
-    turned _ _ _ _ (l .i) (l .table) _ (l .answers) _ (k .loop-test .taken) (l .inv) (ap (λ (o : Outcome). o .table) e) (c .before .code .ensures ∙ ap codeOf e)
+    let h = k .loop-test .taken in
+    turned _ _ _ _ (l .i) (l .table) _ (l .answers) _ h (l .inv) (ap (λ (o : Outcome). o .table) e)
+    (c .before .code .ensures ∙ ap plainOf e ∙ sym (event-code (l .table) _ _ (l .inv .sound h)))
 
 same-length : tie.Need-same-length Inv-loop μ-loop
 same-length c = c .before .before .loop .inv .long
@@ -89,7 +90,7 @@ returns : tie.Need-returns Inv-loop μ-loop
 returns c =
     let f = c .before .before .before .before .fresh .ensures in
     let g : good (c .before .before .before .before .fresh .result .table) ≡ true = rw f (made-good _) in
-    let e = run-ends _ _ _ _ _ true (sym g) (c .before .before .before .before .before .least .ensures) _ _ _ Done refl (c .before .loop-test .left) (c .before .before .loop .inv) in
+    let e = run-ends _ _ _ _ _ true _ (sym g) refl (c .before .before .before .before .before .least .ensures) _ _ _ Done refl (c .before .loop-test .left) (c .before .before .loop .inv) in
     (c .number .ensures ∙ ap (λ (m : Made). numberOf (m .answer)) f, rw (← f) (e .1))
 
 pub bench-events-spec : {M : Type 1} → statement M

@@ -1,4 +1,5 @@
 use borrow.Author.Needs.{needs}
+use mathlib.Core.Path.{_∙_}
 use Rattle.cabi.specs.Laws.Acting.{Holds}
 use Rattle.cabi.specs.Laws.Calling.{event-unread, accepted-holds, event-made}
 use Rattle.cabi.proofs.yarvelow_event.Statement.{statement}
@@ -6,14 +7,15 @@ use Rattle.cabi.proofs.yarvelow_event.Tie as tie
 
 returns : tie.Need-returns
 returns c =
-    let s = c .before .before .before .before in
-    event-unread (s .args .image .now) (c .before .answer .result) (c .before .answer .ensures) (c .if1 .taken) (s .args .port) (s .args .event)
+    let t = c .before .before in
+    let s = t .before .before .before .before in
+    event-unread (s .args .image .now) (c .refused .result) (c .refused .ensures) (λ q. t .if1 .taken (t .before .number .ensures ∙ q)) (s .args .port) (s .args .event)
 
 -- the image is one whose table is good
 holds : (c : tie.After-d-in) → Holds (c .d-in .result) (c .before .before .before .before .before .before .args .image .now)
 holds c =
     let n = c .before .before .before in
-    accepted-holds (n .before .before .before .args .image .now) (n .answer .result) (c .d-in .result) (n .answer .ensures) (c .before .before .if1 .left) (c .d-in .ensures)
+    accepted-holds (n .before .before .before .args .image .now) (n .number .result) (c .d-in .result) (n .number .ensures) (c .before .before .if1 .left) (c .d-in .ensures)
 
 act-in-requires : tie.Need-act-in-requires
 act-in-requires c κs = holds (c .before)
@@ -31,6 +33,7 @@ yarvelow-event-spec =
     tie.close
     (tie.spec
     (λ c κs. search needs)
+    (λ c κs. c .before .before .number .ensures)
     (λ c. search needs)
     returns
     (λ c κs. search needs)

@@ -1,7 +1,7 @@
 use borrow.Author.Needs.{needs}
 use mathlib.Core.Path.{_≡_, sym, ap, _∙_}
 use lib.ListN.{length, take, drop}
-use Rattle.layout.specs.Bytes.{Bytes}
+use Rattle.model.specs.Bytes.{Bytes}
 use Rattle.cabi.specs.Laws.Acting.{Holds, Acts, port-small, carries}
 use Rattle.cabi.specs.Laws.Calling.{accepted-holds, into-unread, into-refused, into-short, into-done, copied}
 use Rattle.cabi.proofs.yarvelow_event_into.Statement.{statement}
@@ -9,8 +9,9 @@ use Rattle.cabi.proofs.yarvelow_event_into.Tie as tie
 
 returns : tie.Need-returns
 returns c =
-    let s = c .before .before .before .before in
-    into-unread (s .args .image .now) (c .before .answer .result) (c .before .answer .ensures) (c .if1 .taken) (s .args .next .now) (s .args .port) (s .args .event)
+    let t = c .before in
+    let s = t .before .before .before .before in
+    into-unread (s .args .image .now) (c .refused .result) (c .refused .ensures) (λ q. t .if1 .taken (t .before .number .ensures ∙ q)) (s .args .next .now) (s .args .port) (s .args .event)
 
 -- the image is one whose table is good
 module _ (c : tie.After-d-in) where
@@ -20,7 +21,7 @@ module _ (c : tie.After-d-in) where
   holds : Holds (c .d-in .result) (start .args .image .now)
   holds =
       let n = c .before .before in
-      accepted-holds (start .args .image .now) (n .answer .result) (c .d-in .result) (n .answer .ensures) (c .before .if1 .left) (c .d-in .ensures)
+      accepted-holds (start .args .image .now) (n .number .result) (c .d-in .result) (n .number .ensures) (c .before .if1 .left) (c .d-in .ensures)
 
   known : Bytes (start .args .image .now)
   known = λ i. c .before .before .before .before .shared-slice-known .given i .fits
@@ -86,6 +87,7 @@ yarvelow-event-into-spec =
     tie.close
     (tie.spec
     (λ c κs. search needs)
+    (λ c κs. c .before .number .ensures)
     returns
     (λ c κs. search needs)
     refusal-in-requires

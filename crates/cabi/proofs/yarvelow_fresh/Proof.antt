@@ -2,7 +2,7 @@ use borrow.Author.Needs.{needs}
 use mathlib.Core.Path.{_≡_, sym, _∙_}
 use mathlib.Core.Bool.{true}
 use native.Mathlib.Omega.{arith}
-use Rattle.model.specs.Good.{sizeGood}
+use Rattle.model.specs.Table.{sizeGood}
 use borrow.Author.Tests.{not-true, not-false}
 use Rattle.lock.specs.Single.{number-small}
 use Rattle.cabi.specs.Laws.Fresh.{fresh-refused, fresh-written, fresh-length}

@@ -20,8 +20,11 @@ abbrev μ-loop : tie.MeasureT-loop
 
 returns : tie.Need-returns Inv-loop μ-loop
 returns c =
-    let s = c .before .before .before .before .before .before in
-    run-unread (s .args .image .now) (c .before .answer .result) (c .before .answer .ensures) (c .if1 .taken) (ordersFor (s .args .orders .now) (s .args .answers .now)) (s .args .answers .now)
+    let t = c .before .before in
+    let s = t .before .before .before .before .before .before in
+    run-unread (s .args .image .now) (c .refused .result) (c .refused .ensures) (λ q. t .if1 .taken (t .before .number .ensures ∙ q))
+    (ordersFor (s .args .orders .now) (s .args .answers .now))
+    (s .args .answers .now)
 
 -- the image is one whose table is good
 module _ (c : tie.After-d-in Inv-loop μ-loop) where
@@ -31,7 +34,7 @@ module _ (c : tie.After-d-in Inv-loop μ-loop) where
   holds : Holds (c .d-in .result) (start .args .image .now)
   holds =
       let n = c .before .before .before in
-      accepted-holds (start .args .image .now) (n .answer .result) (c .d-in .result) (n .answer .ensures) (c .before .before .if1 .left) (c .d-in .ensures)
+      accepted-holds (start .args .image .now) (n .number .result) (c .d-in .result) (n .number .ensures) (c .before .before .if1 .left) (c .d-in .ensures)
 
 -- a turn's order and its answer have their places
 module _ (c : tie.In-loop Inv-loop μ-loop) where
@@ -106,7 +109,7 @@ returns-2 c =
     let l = c .before .loop in
     let n = c .before .before in
     let a = n .before .before .before .before in
-    rw (← (n .least .ensures)) (run-ends _ _ _ _ _ (l .i) (l .image) (l .answers) (c .loop-test .left) (l .inv) (sym (a .answer .ensures) ∙ n .before .before .before .if1 .left))
+    rw (← (n .least .ensures)) (run-ends _ _ _ _ _ (l .i) (l .image) (l .answers) (c .loop-test .left) (l .inv) (sym (a .number .ensures) ∙ n .before .before .before .if1 .left))
 
 pub yarvelow-run-spec : {M : Type 1} → statement M
 yarvelow-run-spec =
@@ -115,6 +118,7 @@ yarvelow-run-spec =
     Inv-loop
     μ-loop
     (λ c κs. search needs)
+    (λ c κs. c .before .before .number .ensures)
     (λ c. search needs)
     returns
     (λ c κs. search needs)

@@ -19,7 +19,7 @@ use Rattle.model.specs.declared.Cell.the-variants.{Nothing, Status, Go, Spin, A
 use Rattle.model.specs.Table.{room, table, portAt, copiesAt}
 use Rattle.model.specs.Good.{good}
 use Rattle.model.specs.Points.{pointOf}
-use Rattle.model.specs.Event.{numberOf, stepping, firstOf, refusals, refusal, ordered, event}
+use Rattle.model.specs.Event.{numberOf, answerCode, stepping, firstOf, refusals, refusal, ordered, event}
 use Rattle.model.specs.Run.{codeOf}
 use Rattle.model.specs.Parts.Moves.{view, tried}
 use Rattle.model.specs.Parts.Charges.{touchAt, home, holders, feeOf}
@@ -28,8 +28,9 @@ use Rattle.model.specs.Laws.Rules.{port-rules}
 use Rattle.model.specs.Laws.Kept.{room-fits}
 use Rattle.model.specs.Laws.Fees.{charge-cost}
 use Rattle.costs.specs.Single.{charge-fee}
-use Rattle.layout.specs.Bytes.{Bytes, sum, unpack}
-use Rattle.layout.specs.Layout.{sharedWidths, portWidths, headWidths, portValues, portOf, setWidth, copiedWidths, copiesWidths, sharedOf, copiesOf, portPlace, copiesPlace, size}
+use Rattle.lock.specs.Single.{event-code}
+use Rattle.model.specs.Bytes.{Bytes, sum, unpack}
+use Rattle.model.specs.Layout.{sharedWidths, portWidths, headWidths, portValues, portOf, setWidth, copiedWidths, copiesWidths, sharedOf, copiesOf, portPlace, copiesPlace, size}
 use Rattle.layout.specs.Places.{setPlace}
 use Rattle.records.specs.Records.{there, putAt, portsIn}
 use Rattle.records.specs.Laws.There.{there-inside, there-outside}
@@ -150,15 +151,16 @@ module _ (d : ℕ) (bs : List ℕ) (h : Holds d bs) (k e : ℕ) where
     unmoved = sym (held-encoded bs d (h .ports) (h .some) bytes)
 
     pub refused-made : (n : ℕ) → n ≡ numberOf (refusal t k e) → (n ≡ 0 → ⊥) → (n ≡ codeOf (event t k e)) × (bs ≡ encode (event t k e .table))
-    unfolding codeOf event
+    unfolding event
     refused-made n r z =
         let o = ne-eqb (numberOf (refusal t k e)) 0 (λ x. z (r ∙ x)) in
-        rw o (r ∙ omega arith, unmoved)
+        let q : codeOf (event t k e) ≡ numberOf (refusal t k e) = event-code t k e (h .sound) ∙ rw o (omega arith) in
+        (r ∙ sym q, rw o unmoved)
 
     -- all but a step
     pub order-made : k < d → numberOf (refusal t k e) ≡ 0 → (e ≡ stepping → ⊥) → (own : Port) → own ≡ portOf (there portWidths (portPlace k) bs)
         → (0 ≡ codeOf (event t k e)) × (putAt portWidths (portValues (ordered e own)) (portPlace k) bs ≡ encode (event t k e .table))
-    unfolding codeOf
+    unfolding answerCode codeOf
     order-made q r z own m =
         let o = event-ordered t k e r z in
         let mine = m ∙ port-held bs d (h .ports) (h .some) k q in
@@ -225,7 +227,7 @@ module _ (d : ℕ) (bs : List ℕ) (k : ℕ) (a : Acts d bs k stepping) where
 
     -- what it answers
     pub step-answers : 256 * f .cached + 65536 * f .distributed ≡ codeOf (event was k stepping)
-    unfolding codeOf
+    unfolding answerCode codeOf
     step-answers =
         let o : event was k stepping ≡ left was k = event-stepped was k stepping (a .passes) refl in
         rw (o, paid) (omega arith)

@@ -10,15 +10,17 @@ use lib.ListN.{length, getD, take, drop}
 use lib.Seq.{sets, sets-eq, take-length, take-append-seam, drop-append-seam, take-at, drop-at}
 use Rattle.model.specs.declared.Table.{Table}
 use Rattle.model.specs.declared.Outcome.{Outcome}
+use Rattle.model.specs.declared.Answer.{Answer}
+use Rattle.model.specs.declared.Answer.the-variants.{Done, BadTable, NoSuchPort, NoSuchEvent, Busy, Worn, NotInside, Idle, Inside, BadSize, ShortRoom, BadImage}
 use Rattle.model.specs.Table.{Sized}
 use Rattle.model.specs.Good.{good}
-use Rattle.model.specs.Event.{numberOf, refusal, event}
+use Rattle.model.specs.Event.{numberOf, answerCode, refusal, event}
 use Rattle.model.specs.Run.{Order, order, after, ran, codeOf, codes}
 use Rattle.model.specs.Laws.Cases.{refused-free}
 use Rattle.model.specs.Laws.After.{after-sized, after-d}
 use Rattle.model.specs.Laws.Kept.{good-after}
-use Rattle.layout.specs.Bytes.{Bytes}
-use Rattle.layout.specs.Layout.{dIn}
+use Rattle.model.specs.Bytes.{Bytes}
+use Rattle.model.specs.Layout.{dIn}
 use Rattle.records.specs.Records.{portsIn}
 use Rattle.records.specs.Laws.Head.{image-tests}
 use Rattle.image.specs.Image.{held, encode, decode, roomAfter}
@@ -28,12 +30,31 @@ use Rattle.image.specs.Laws.Encoded.{encode-bytes}
 use Rattle.image.specs.Laws.RoundTrip.{d-back, image-back, held-back, decode-encode}
 use Rattle.cabi.specs.Calls.{checkCall, eventOn, eventCall, eventImage, intoOn, intoCall, intoNext, calls, callsImage}
 use Rattle.cabi.specs.Laws.Stepping.{event-done}
-use Rattle.cabi.specs.Laws.Acting.{Holds}
+use Rattle.cabi.specs.Laws.Acting.{Holds, refused-made}
 
--- refused by the reader: an event answers its number and leaves every byte
-module _ (bs : List ℕ) (n : ℕ) (a : n ≡ numberOf (decode bs .answer)) (z : n ≡ 0 → ⊥) where
+-- an answer in one number: but for BAD TABLE, document 01's; 0 is DONE
+pub code-plain : (a : Answer) → (numberOf a ≡ 1 → ⊥) → numberOf a ≡ answerCode a
+unfolding answerCode
+code-plain Done h = refl
+code-plain (BadTable f) h = absurd (h refl)
+code-plain NoSuchPort h = refl
+code-plain NoSuchEvent h = refl
+code-plain Busy h = refl
+code-plain Worn h = refl
+code-plain NotInside h = refl
+code-plain Idle h = refl
+code-plain Inside h = refl
+code-plain BadSize h = refl
+code-plain ShortRoom h = refl
+code-plain BadImage h = refl
+
+pub code-done : (a : Answer) → numberOf a ≡ 0 → 0 ≡ answerCode a
+code-done a z = sym z ∙ code-plain a (λ q. absurd (omega (arith, z, q)))
+
+-- refused by the reader: an event answers what it does and leaves every byte
+module _ (bs : List ℕ) (n : ℕ) (a : n ≡ checkCall bs) (z : numberOf (decode bs .answer) ≡ 0 → ⊥) where
   unread : eqb (numberOf (decode bs .answer)) 0 ≡ false
-  unread = ne-eqb (numberOf (decode bs .answer)) 0 (λ q. z (a ∙ q))
+  unread = ne-eqb (numberOf (decode bs .answer)) 0 z
 
   pub event-unread : (k e : ℕ) → (n ≡ eventCall bs k e) × (bs ≡ eventImage bs k e)
   unfolding checkCall codeOf eventCall eventImage
@@ -54,7 +75,6 @@ accepted-holds bs n d a z e =
 -- the image of a good table
 module _ (t : Table) (s : Sized t) (g : good t ≡ true) (k e : ℕ) where
   on-table : eventOn (encode t) k e ≡ event t k e
-  unfolding checkCall
   on-table = rw (decode-encode t s g)
 
   pub table-calls : (eventCall (encode t) k e ≡ codeOf (event t k e)) × (eventImage (encode t) k e ≡ encode (event t k e .table))
@@ -116,22 +136,22 @@ module _ (d : ℕ) (bs : List ℕ) (h : Holds d bs) (bytes : Bytes bs) (k e : �
   -- into another buffer: refused by the event, for want of room, and done
   module _ (next : List ℕ) where
     pub into-refused : (n : ℕ) → n ≡ numberOf (refusal t k e) → (n ≡ 0 → ⊥) → (n ≡ intoCall bs (length next) k e) × (next ≡ intoNext bs next k e)
-    unfolding codeOf event intoCall intoNext roomAfter
+    unfolding event intoCall intoNext roomAfter
     into-refused n r z =
         let o = ne-eqb (numberOf (refusal t k e)) 0 (λ x. z (r ∙ x)) in
-        (r ∙ rw (on-held, o, o) (omega arith), rw (on-held, o, o, o))
+        (refused-made d bs h k e bytes n r z .0 ∙ rw (on-held, o, o), rw (on-held, o, o, o))
 
     module _ (z : numberOf (refusal t k e) ≡ 0) where
       done : eqb (numberOf (event t k e .answer)) 0 ≡ true
       done = rw (event-done t k e z)
 
       pub into-short : length next < length bs → (10 ≡ intoCall bs (length next) k e) × (next ≡ intoNext bs next k e)
-      unfolding codeOf intoCall intoNext roomAfter
+      unfolding answerCode codeOf intoCall intoNext roomAfter
       into-short l = rw (on-held, done, lt-ltb _ _ l) (omega arith, refl)
 
       pub into-done : length bs ≤ length next → (n : ℕ) (out : List ℕ) → (n ≡ codeOf (event t k e)) × (out ≡ encode (event t k e .table))
           → (n ≡ intoCall bs (length next) k e) × (out ++ drop (length bs) next ≡ intoNext bs next k e)
-      unfolding codeOf intoCall intoNext roomAfter
+      unfolding intoCall intoNext roomAfter
       into-done l n out r =
           let m : length out ≡ length bs = next-long out (r .1) in
           let e = sets-eq out next 0 (omega (arith, m, l)) in
@@ -166,7 +186,6 @@ module _ (bs next : List ℕ) (k e : ℕ) (done : numberOf (intoOn bs (length ne
 
   -- so the image was accepted
   accepted : numberOf (decode bs .answer) ≡ 0
-  unfolding checkCall
   accepted = go (eqb (numberOf (decode bs .answer)) 0) refl
     where
       go : (b : Bool) → eqb (numberOf (decode bs .answer)) 0 ≡ b → numberOf (decode bs .answer) ≡ 0

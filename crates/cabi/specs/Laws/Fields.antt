@@ -17,8 +17,8 @@ use Rattle.model.specs.declared.Cell.the-variants.{Nothing, Status, Go, Spin, A
 use Rattle.model.specs.Table.{putCopies as putCopiesAt, room, copies, shared, table, Sized, noPort, noCopies, portAt, copiesAt, putPort}
 use Rattle.model.specs.Step.{withValue, putActive, putWord}
 use Rattle.model.specs.Parts.Charges.{putShared, putCopies}
-use Rattle.layout.specs.Bytes.{little, sum, pack}
-use Rattle.layout.specs.Layout.{sharedWidths, portWidths, setWidth, copiedWidths, copiesWidths, headWidths, sharedValues, portValues, copiedValues, copiesValues, headValues, portPlace, copiesPlace}
+use Rattle.model.specs.Bytes.{little, sum, pack}
+use Rattle.model.specs.Layout.{sharedWidths, portWidths, setWidth, copiedWidths, copiesWidths, headWidths, sharedValues, portValues, copiedValues, copiesValues, headValues, portPlace, copiesPlace}
 use Rattle.layout.specs.Places.{setPlace, valuePlace, wordPlace}
 use Rattle.layout.specs.Laws.Digits.{length-little}
 use Rattle.layout.specs.Laws.Records.{packs, length-pack, rows-long}

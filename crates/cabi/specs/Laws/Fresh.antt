@@ -7,11 +7,10 @@ use native.Mathlib.Decide.{decLt}
 use native.Mathlib.Omega.{arith}
 use lib.Dec.{eqb}
 use lib.ListN.{length}
-use Rattle.model.specs.Table.{room, freshTable}
-use Rattle.model.specs.Good.{sizeGood}
+use Rattle.model.specs.Table.{room, freshTable, sizeGood}
 use Rattle.model.specs.Event.{numberOf, fresh}
 use Rattle.rules.specs.Check.{size-good-fits}
-use Rattle.layout.specs.Layout.{size}
+use Rattle.model.specs.Layout.{size}
 use Rattle.image.specs.declared.Written.{Written}
 use Rattle.image.specs.Laws.Encoded.{size-narrow, size-wide}
 use Rattle.image.specs.Image.{writeAnswer, written, roomAfter}

@@ -8,8 +8,8 @@ use Rattle.model.specs.declared.Kind.{Kind}
 use Rattle.model.specs.declared.Kind.the-variants.{Read, Write, Add, Swap}
 use Rattle.model.specs.declared.Kind.the-variants as Kinds
 use Rattle.model.specs.Points.{settled}
-use Rattle.layout.specs.Bytes.{sum}
-use Rattle.layout.specs.Layout.{portWidths, setWidth, headWidths, portValues, portPlace}
+use Rattle.model.specs.Bytes.{sum}
+use Rattle.model.specs.Layout.{portWidths, setWidth, headWidths, portValues, portPlace}
 use Rattle.layout.specs.Places.{setPlace, valuePlace, wordPlace}
 use Rattle.records.specs.Records.{putAt}
 

@@ -22,8 +22,8 @@ use Rattle.model.specs.Table.{room, copies, table, Sized, noPort, noCopies, por
 use Rattle.model.specs.Step.{withValue}
 use Rattle.model.specs.Points.{settled}
 use Rattle.model.specs.Parts.Charges.{putShared, putCopies}
-use Rattle.layout.specs.Bytes.{sum}
-use Rattle.layout.specs.Layout.{sharedWidths, portWidths, setWidth, copiedWidths, copiesWidths, headWidths, portValues, portPlace, size}
+use Rattle.model.specs.Bytes.{sum}
+use Rattle.model.specs.Layout.{sharedWidths, portWidths, setWidth, copiedWidths, copiesWidths, headWidths, portValues, portPlace, size}
 use Rattle.layout.specs.Places.{setPlace, valuePlace, wordPlace}
 use Rattle.layout.specs.Laws.Inside.{start-inside, port-inside, copied-inside, copies-inside}
 use Rattle.records.specs.Records.{putAt}

@@ -11,10 +11,10 @@ use lib.Seq.{drop-drop}
 use Rattle.model.specs.declared.Port.{Port}
 use Rattle.model.specs.declared.Table.{Table}
 use Rattle.model.specs.declared.Made.{Made}
-use Rattle.model.specs.Table.{room, Sized, portAt, freshTable}
+use Rattle.model.specs.Table.{room, sizeGood, Sized, portAt, freshTable}
 use Rattle.model.specs.Points.{oneOf}
-use Rattle.model.specs.Good.{sizeGood, good}
-use Rattle.model.specs.Event.{numberOf, stepping, crash}
+use Rattle.model.specs.Good.{good}
+use Rattle.model.specs.Event.{numberOf, answerCode, stepping, crash}
 use Rattle.model.specs.Run.{Order, order, answered, after, ran, reached, done, stepsAt, stepless}
 use Rattle.model.specs.Laws.Tests.{conjunct}
 use Rattle.model.specs.Laws.After.{fresh-sized}
@@ -22,8 +22,8 @@ use Rattle.model.specs.Laws.Kept.{good-fresh}
 use Rattle.model.specs.Laws.Rules.{shared-rules}
 use Rattle.model.specs.Laws.Reached.{reached-sized, reached-d}
 use Rattle.model.specs.Statements.{always-good, one-inside, keeps, returns}
-use Rattle.layout.specs.Bytes.{value, sum, unpack}
-use Rattle.layout.specs.Layout.{headWidths, sharedWidths, portWidths, portOf, portPlace, size}
+use Rattle.model.specs.Bytes.{value, sum, unpack}
+use Rattle.model.specs.Layout.{headWidths, sharedWidths, portWidths, portOf, portPlace, size}
 use Rattle.layout.specs.Laws.Inside.{port-inside, copied-inside}
 use Rattle.records.specs.Laws.Rows.{value-one}
 use Rattle.image.specs.Image.{encode, decode, writeAnswer, written, roomAfter}
@@ -106,10 +106,10 @@ module _ (d : ℕ) (some : 1 ≤ d) (fits : d ≤ room) where
       )
 
   pub accepted-reached : (os : List Order) → checkCall (imageAfter os) ≡ 0
-  unfolding checkCall
+  unfolding answerCode checkCall
   accepted-reached os =
-      ap (λ (bs : List ℕ). numberOf (decode bs .answer)) (image-reached os)
-      ∙ ap (λ (m : Made). numberOf (m .answer)) (decode-encode (reached d os) (reached-sized d os) (always-good d some fits os))
+      ap (λ (bs : List ℕ). answerCode (decode bs .answer)) (image-reached os)
+      ∙ ap (λ (m : Made). answerCode (m .answer)) (decode-encode (reached d os) (reached-sized d os) (always-good d some fits os))
 
   pub inside-bytes : (os : List Order) (j k : ℕ) → j < d → k < d → getD (imageAfter os) (26 + 16 * j) 0 ≡ 11 → getD (imageAfter os) (26 + 16 * k) 0 ≡ 11 → j ≡ k
   inside-bytes os j k h l p q = one-inside d some fits os j k (sym (point-after os j h) ∙ p) (sym (point-after os k l) ∙ q)

@@ -1,5 +1,5 @@
 -- A run of calls on one image, which is checked once: what is still to do is what the definitions say of all calls.
-use mathlib.Core.Path.{_≡_, refl, sym, ap, _∙_}
+use mathlib.Core.Path.{_≡_, refl, ap, _∙_}
 use mathlib.Core.List.{List, [], _∷_}
 use Prim.Native.Nat.{ℕ, _+_, _-_, _*_, _≤_, _<_}
 use native.Mathlib.Nat.{sub-zero}
@@ -11,14 +11,14 @@ use lib.Seq.{sets}
 use Rattle.model.specs.Event.{numberOf, event}
 use Rattle.model.specs.Run.{Order, orders, codeOf}
 use Rattle.lock.specs.Turns.{next-order}
-use Rattle.layout.specs.Bytes.{Bytes}
+use Rattle.model.specs.Bytes.{Bytes}
 use Rattle.image.specs.Image.{held, encode, decode}
 use Rattle.cabi.specs.Calls.{checkCall, eventCall, eventImage, calls, callsImage, runPlaces}
 use Rattle.cabi.specs.Laws.Acting.{Holds}
-use Rattle.cabi.specs.Laws.Calling.{event-unread, event-made, next-holds, next-long, next-bytes}
+use Rattle.cabi.specs.Laws.Calling.{code-done, event-unread, event-made, next-holds, next-long, next-bytes}
 
 -- refused by the reader: no call changes the image, and no place for an answer is changed
-module _ (bs : List ℕ) (n : ℕ) (a : n ≡ numberOf (decode bs .answer)) (z : n ≡ 0 → ⊥) where
+module _ (bs : List ℕ) (n : ℕ) (a : n ≡ checkCall bs) (z : numberOf (decode bs .answer) ≡ 0 → ⊥) where
   pub calls-unread : (os : List Order) → bs ≡ callsImage bs os
   unfolding callsImage
   calls-unread [] = refl
@@ -26,8 +26,8 @@ module _ (bs : List ℕ) (n : ℕ) (a : n ≡ numberOf (decode bs .answer)) (z :
       calls-unread os ∙ ap (λ (b : List ℕ). callsImage b os) (event-unread bs n a z (o .port) (o .event) .1)
 
   pub run-unread : (os : List Order) (places : List ℕ) → (n ≡ checkCall bs) × ((bs ≡ callsImage bs os) × (places ≡ runPlaces bs os places))
-  unfolding checkCall runPlaces
-  run-unread os places = (a, (calls-unread os, rw (ne-eqb (numberOf (decode bs .answer)) 0 (λ q. z (a ∙ q)))))
+  unfolding runPlaces
+  run-unread os places = (a, (calls-unread os, rw (ne-eqb (numberOf (decode bs .answer)) 0 z)))
 
 -- the loop over the orders xs, from the image b₀ of d ports and the answers a₀, before turn i with the image b and the answers a
 pub record Running (xs : List ℕ) (n d : ℕ) (b₀ a₀ : List ℕ) (i : ℕ) (b a : List ℕ) : Type 0 where
@@ -69,4 +69,4 @@ module _ (xs : List ℕ) (n d : ℕ) (b₀ a₀ : List ℕ) where
   unfolding checkCall calls callsImage orders runPlaces
   run-ends i b a h r z =
       let e : n - i ≡ 0 = omega arith in
-      (sym z, (rw e at (r .image), rw (eq-eqb _ _ z) (rw e at (r .text))))
+      (code-done (decode b₀ .answer) z, (rw e at (r .image), rw (eq-eqb _ _ z) (rw e at (r .text))))

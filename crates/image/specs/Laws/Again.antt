@@ -10,8 +10,8 @@ use lib.Dec.{eqb}
 use lib.ListN.{length, take, drop, replicate, length-map, length-drop, take-append-drop}
 use lib.Seq.{take-at, take-all, drop-drop}
 use Rattle.model.specs.Table.{room, noPort, noCopies}
-use Rattle.layout.specs.Bytes.{Bytes, sum, pack, unpack, unpacks}
-use Rattle.layout.specs.Layout.{sharedWidths, portWidths, copiedWidths, copiesWidths, headWidths, sharedValues, portValues, copiedValues, copiesValues, headValues, sharedOf, portOf, copiesOf, portPlace, copiesPlace, size, dIn, isImage}
+use Rattle.model.specs.Bytes.{Bytes, sum, pack, unpack, unpacks}
+use Rattle.model.specs.Layout.{sharedWidths, portWidths, copiedWidths, copiesWidths, headWidths, sharedValues, portValues, copiedValues, copiesValues, headValues, sharedOf, portOf, copiesOf, portPlace, copiesPlace, size, dIn, isImage}
 use Rattle.layout.specs.Laws.Digits.{bytes-drop}
 use Rattle.layout.specs.Laws.Records.{packs, pack-unpack, packs-unpacks, length-unpack, length-unpacks}
 use Rattle.records.specs.Laws.Rows.{same}

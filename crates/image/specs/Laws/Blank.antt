@@ -7,12 +7,15 @@ use native.Mathlib.Nat.{zero-mul, suc-mul, add-comm}
 use native.Mathlib.Omega.{arith}
 use lib.ListN.{length, getD, set, take, drop, replicate}
 use lib.Seq.{sets, getD-drop, length-sets}
-use Rattle.model.specs.Table.{room, noPort, noCopies, freshTable}
-use Rattle.model.specs.Good.{sizeGood, good}
+use Rattle.model.specs.Table.{room, noPort, noCopies, freshTable, sizeGood}
+use Rattle.model.specs.Good.{whole, good, badIn}
+use Rattle.model.specs.Parts.Good.{allGood}
+use Rattle.model.specs.Laws.Listed.{good-all}
+use Rattle.model.specs.Laws.Faults.{bad-whole}
 use Rattle.model.specs.Laws.Kept.{good-fresh}
 use Rattle.rules.specs.Check.{size-good-fits}
-use Rattle.layout.specs.Bytes.{little, sum, pack}
-use Rattle.layout.specs.Layout.{sharedWidths, portWidths, copiedWidths, copiesWidths, headWidths, sharedValues, portValues, copiedValues, copiesValues, headValues, portPlace, copiesPlace, size}
+use Rattle.model.specs.Bytes.{little, sum, pack}
+use Rattle.model.specs.Layout.{sharedWidths, portWidths, copiedWidths, copiesWidths, headWidths, sharedValues, portValues, copiedValues, copiesValues, headValues, portPlace, copiesPlace, size}
 use Rattle.layout.specs.Laws.Inside.{start-inside, copied-inside}
 use Rattle.layout.specs.Laws.Records.{packs, length-pack}
 use Rattle.records.specs.Records.{putAt}
@@ -87,12 +90,16 @@ module _ (d : ℕ) (h : d ≤ room) (out mid : List ℕ) (enough : size d ≤ le
 
 -- a fresh table is good where its D is
 pub fresh-good : (d : ℕ) → good (freshTable d) ≡ sizeGood d
-unfolding good freshTable
+unfolding allGood freshTable
 fresh-good d = go (sizeGood d) refl
   where
     go : (b : Bool) → sizeGood d ≡ b → good (freshTable d) ≡ b
     go true q = let f = size-good-fits d q in good-fresh d (f .0) (f .1)
-    go false q = rw q
+    go false q = good-all (freshTable d) ∙ rw q
+
+pub fresh-bad : (d : ℕ) → sizeGood d ≡ false → badIn (freshTable d) ≡ whole
+unfolding freshTable
+fresh-bad d e = bad-whole (freshTable d) (rw e)
 
 -- one byte filled
 pub fill-turn : (l all : List ℕ) (i to : ℕ) → i < to → sets l i (zeros (to - i)) ≡ all → sets (set l i 0) (i + 1) (zeros (to - (i + 1))) ≡ all

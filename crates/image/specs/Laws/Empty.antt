@@ -1,5 +1,5 @@
 -- What a good table keeps for ports at or above D is 0.
-use mathlib.Core.Path.{_≡_}
+use mathlib.Core.Path.{_≡_, sym, _∙_}
 use mathlib.Core.Bool.{true, _&&_, and-eq-true-iff}
 use mathlib.Core.List.{[], _∷_}
 use Prim.Native.Nat.{ℕ, _≤_, _<_}
@@ -7,14 +7,16 @@ use borrow.Author.Tests.{le-ltb, eqb-true}
 use Rattle.model.specs.declared.Port.{Port}
 use Rattle.model.specs.declared.Copies.{Copies}
 use Rattle.model.specs.declared.Table.{Table}
-use Rattle.model.specs.Table.{room, noPort, noCopies, portAt, copiesAt}
-use Rattle.model.specs.Good.{everyBelow, sizeGood, sharedGood, portEmpty, placeGood, good}
+use Rattle.model.specs.Table.{room, noPort, noCopies, portAt, copiesAt, sizeGood}
+use Rattle.model.specs.Good.{everyBelow, good}
+use Rattle.model.specs.Parts.Good.{sharedGood, portEmpty, placeGood, allGood}
 use Rattle.model.specs.Laws.Tests.{conjunct, every-below}
+use Rattle.model.specs.Laws.Listed.{good-all}
 
 empty-place : (t : Table) → good t ≡ true → (k : ℕ) → t .shared .d ≤ k → k < room → portEmpty (portAt t k) (copiesAt t k) ≡ true
-unfolding good placeGood
+unfolding allGood placeGood
 empty-place t g k h l =
-    let places = and-eq-true-iff (sizeGood (t .shared .d) && sharedGood (t .shared) _) (everyBelow room (placeGood t)) .0 g .1 in
+    let places = and-eq-true-iff (sizeGood (t .shared .d) && sharedGood (t .shared) _) (everyBelow room (placeGood t)) .0 (sym (good-all t) ∙ g) .1 in
     rw (le-ltb k (t .shared .d) h) at (every-below room (placeGood t) places k l)
 
 -- a port and copy sets whose fields are all 0

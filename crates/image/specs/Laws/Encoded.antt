@@ -8,8 +8,8 @@ use lib.ListN.{length, take, length-map, length-append}
 use lib.Seq.{length-take-le}
 use Rattle.model.specs.declared.Table.{Table}
 use Rattle.model.specs.Table.{room, Sized}
-use Rattle.layout.specs.Bytes.{Bytes, sum, pack}
-use Rattle.layout.specs.Layout.{sharedWidths, portWidths, setWidth, copiedWidths, copiesWidths, headWidths, sharedValues, portValues, copiedValues, copiesValues, headValues, portPlace, copiesPlace, size}
+use Rattle.model.specs.Bytes.{Bytes, sum, pack}
+use Rattle.model.specs.Layout.{sharedWidths, portWidths, setWidth, copiedWidths, copiesWidths, headWidths, sharedValues, portValues, copiedValues, copiesValues, headValues, portPlace, copiesPlace, size}
 use Rattle.layout.specs.Laws.Digits.{bytes-append}
 use Rattle.layout.specs.Laws.Records.{packs, length-pack, length-packs, pack-bytes, packs-bytes}
 use Rattle.image.specs.Image.{encode}

@@ -14,8 +14,8 @@ use Rattle.model.specs.Mask.{within}
 use Rattle.model.specs.Good.{named, good}
 use Rattle.model.specs.Laws.Mask.{within-lt}
 use Rattle.model.specs.Laws.Rules.{shared-rules, port-rules}
-use Rattle.layout.specs.Bytes.{sum}
-use Rattle.layout.specs.Layout.{sharedWidths, portWidths, setWidth, copiedWidths, copiesWidths, headWidths, sharedValues, portValues, copiedValues, copiesValues, version, portPlace, headValues}
+use Rattle.model.specs.Bytes.{sum}
+use Rattle.model.specs.Layout.{sharedWidths, portWidths, setWidth, copiedWidths, copiesWidths, headWidths, sharedValues, portValues, copiedValues, copiesValues, version, portPlace, headValues}
 use Rattle.layout.specs.Laws.Records.{Fits, AllFit}
 
 -- the head of an image

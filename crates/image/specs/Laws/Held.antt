@@ -8,8 +8,8 @@ use native.Mathlib.Omega.{arith}
 use lib.ListN.{length, getD, drop, replicate, length-append, length-map, length-replicate, List·getD-append, List·getD-map}
 use lib.Seq.{getD-append-add, drop-drop}
 use Rattle.model.specs.Table.{room, Sized, noPort, noCopies, portAt, copiesAt}
-use Rattle.layout.specs.Bytes.{Bytes, sum, unpack, unpacks}
-use Rattle.layout.specs.Layout.{sharedWidths, portWidths, copiedWidths, copiesWidths, headWidths, sharedOf, portOf, copiesOf, portPlace, copiesPlace, size, dIn, isImage}
+use Rattle.model.specs.Bytes.{Bytes, sum, unpack, unpacks}
+use Rattle.model.specs.Layout.{sharedWidths, portWidths, copiedWidths, copiesWidths, headWidths, sharedOf, portOf, copiesOf, portPlace, copiesPlace, size, dIn, isImage}
 use Rattle.layout.specs.Laws.Inside.{start-inside, port-inside, copied-inside, copies-inside}
 use Rattle.layout.specs.Laws.Records.{length-unpacks}
 use Rattle.records.specs.Records.{there, portsIn}

@@ -12,8 +12,8 @@ use Rattle.model.specs.Table.{Sized}
 use Rattle.model.specs.Good.{good}
 use Rattle.model.specs.Event.{numberOf}
 use Rattle.model.specs.Laws.Rules.{shared-rules}
-use Rattle.layout.specs.Bytes.{Bytes}
-use Rattle.layout.specs.Layout.{size, dIn, isImage}
+use Rattle.model.specs.Bytes.{Bytes}
+use Rattle.model.specs.Layout.{size, dIn, isImage}
 use Rattle.records.specs.Records.{portsIn}
 use Rattle.records.specs.Laws.Head.{image-tests}
 use Rattle.image.specs.declared.Written.{Written}

@@ -19,21 +19,21 @@ use Rattle.model.specs.declared.Answer.{Answer}
 use Rattle.model.specs.declared.Answer.the-variants.{Done, BadTable, BadImage}
 use Rattle.model.specs.Table.{room, table, noPort, noCopies, portAt, copiesAt, freshTable}
 use Rattle.model.specs.Good.{good}
-use Rattle.model.specs.Event.{numberOf}
-use Rattle.layout.specs.Bytes.{value, unpack}
-use Rattle.layout.specs.Layout.{headWidths, dIn, isImage}
+use Rattle.model.specs.Event.{numberOf, faultIn}
+use Rattle.model.specs.Bytes.{value, unpack}
+use Rattle.model.specs.Layout.{headWidths, dIn, isImage}
 use Rattle.records.specs.Records.{portsIn}
 use Rattle.records.specs.Laws.Head.{image-tests}
 use Rattle.image.specs.Image.{held, decode}
 use Rattle.image.specs.Laws.Held.{port-above, copies-above, held-fits, held-sized}
 use Rattle.image.specs.Laws.Whole.{refill, tables}
 
--- D of an image that is accepted, else 0; the answer by its number
+-- D of an image that is accepted, else 0; the answer by the number
 unfoldable pub acceptedIn : ℕ → List ℕ → ℕ
 acceptedIn number bs = cond (eqb number 0) (getD bs 1 0) 0
 
-unfoldable pub answerOf : ℕ → Answer
-answerOf number = cond (eqb number 0) Done (cond (eqb number 1) BadTable BadImage)
+unfoldable pub answerOf : ℕ → List ℕ → Answer
+answerOf number bs = cond (eqb number 0) Done (cond (eqb number 1) (BadTable (faultIn (decode bs .answer))) BadImage)
 
 -- the table of the image of d ports; at d = 0, the fresh table of D = 1
 unfoldable pub tableIn : ℕ → List ℕ → Table
@@ -121,11 +121,11 @@ module _ (bs : List ℕ) where
       go true q = rw (q, accepted-image (sym e ∙ eqb-true n 0 q) .0) (d-byte bs)
       go false q = absurd (omega (arith, rw q at h))
 
-  pub read-ends : (n : ℕ) → n ≡ numberOf (decode bs .answer) → madeIn (answerOf n) (acceptedIn n bs) bs ≡ decode bs
+  pub read-ends : (n : ℕ) → n ≡ numberOf (decode bs .answer) → madeIn (answerOf n bs) (acceptedIn n bs) bs ≡ decode bs
   unfolding decode acceptedIn answerOf tableIn
   read-ends n e = go (isImage bs) refl (good (held (dIn bs) bs)) refl
     where
-      go : (b : Bool) → isImage bs ≡ b → (g : Bool) → good (held (dIn bs) bs) ≡ g → madeIn (answerOf n) (acceptedIn n bs) bs ≡ decode bs
+      go : (b : Bool) → isImage bs ≡ b → (g : Bool) → good (held (dIn bs) bs) ≡ g → madeIn (answerOf n bs) (acceptedIn n bs) bs ≡ decode bs
       go true q true r =
           let z : n ≡ 0 = e ∙ rw (q, r) in
           rw (q, r, z, d-byte bs, ne-eqb (dIn bs) 0 (λ w. absurd (omega (arith, w, image-tests bs q .some))))

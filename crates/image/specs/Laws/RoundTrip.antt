@@ -10,11 +10,11 @@ use lib.ListN.{length, take, drop, replicate, length-map}
 use lib.Seq.{drop-append-add, drop-drop, drop-at, getD-take, length-take-le}
 use Rattle.model.specs.declared.Table.{Table}
 use Rattle.model.specs.declared.Answer.the-variants.{Done}
-use Rattle.model.specs.Table.{room, Sized, noPort, noCopies}
-use Rattle.model.specs.Good.{sizeGood, good}
+use Rattle.model.specs.Table.{room, Sized, noPort, noCopies, sizeGood}
+use Rattle.model.specs.Good.{good}
 use Rattle.model.specs.Laws.Rules.{shared-rules}
-use Rattle.layout.specs.Bytes.{sum, pack, unpack, unpacks}
-use Rattle.layout.specs.Layout.{sharedWidths, portWidths, copiedWidths, copiesWidths, headWidths, sharedValues, portValues, copiedValues, copiesValues, headValues, sharedOf, portOf, copiesOf, portPlace, copiesPlace, size, dIn, isImage}
+use Rattle.model.specs.Bytes.{sum, pack, unpack, unpacks}
+use Rattle.model.specs.Layout.{sharedWidths, portWidths, copiedWidths, copiesWidths, headWidths, sharedValues, portValues, copiedValues, copiesValues, headValues, sharedOf, portOf, copiesOf, portPlace, copiesPlace, size, dIn, isImage}
 use Rattle.layout.specs.Laws.Records.{packs, AllFit, length-pack, unpack-pack, unpacks-packs}
 use Rattle.records.specs.Laws.Rows.{same}
 use Rattle.image.specs.Image.{encode, held, decode}

@@ -11,12 +11,12 @@ use lib.ListN.{length, getD, take, drop, length-append, drop-of-length-le}
 use lib.Seq.{sets, length-sets, drop-cons, getD-take, length-take-le}
 use Rattle.model.specs.declared.Table.{Table}
 use Rattle.model.specs.declared.Answer.the-variants.{Done, BadTable, ShortRoom}
-use Rattle.model.specs.Table.{room, Sized, noPort, noCopies, portAt, copiesAt}
-use Rattle.model.specs.Good.{sizeGood, good}
+use Rattle.model.specs.Table.{room, Sized, noPort, noCopies, portAt, copiesAt, sizeGood}
+use Rattle.model.specs.Good.{good, badIn}
 use Rattle.model.specs.Parts.Rules.{portsOf}
 use Rattle.model.specs.Laws.Rules.{shared-rules}
-use Rattle.layout.specs.Bytes.{sum, pack}
-use Rattle.layout.specs.Layout.{sharedWidths, portWidths, copiedWidths, copiesWidths, headWidths, sharedValues, portValues, copiedValues, copiesValues, headValues, portPlace, copiesPlace, size}
+use Rattle.model.specs.Bytes.{sum, pack}
+use Rattle.model.specs.Layout.{sharedWidths, portWidths, copiedWidths, copiesWidths, headWidths, sharedValues, portValues, copiedValues, copiesValues, headValues, portPlace, copiesPlace, size}
 use Rattle.layout.specs.Laws.Records.{packs, length-pack}
 use Rattle.records.specs.Records.{putAt}
 use Rattle.records.specs.Laws.Rows.{sets-append}
@@ -124,7 +124,7 @@ all-ports t n e g = e ∙ rw (le-leb 1 (t .shared .d) (shared-rules t g .some), 
 
 -- what writing answers
 module _ (t : Table) (n : ℕ) where
-  pub answer-bad : good t ≡ false → writeAnswer t n ≡ BadTable
+  pub answer-bad : good t ≡ false → writeAnswer t n ≡ BadTable (badIn t)
   unfolding writeAnswer
   answer-bad g = rw g
 

@@ -1,5 +1,5 @@
 use mathlib.Core.Path.{refl}
-use Rattle.layout.specs.Layout.{copiedValues}
+use Rattle.model.specs.Layout.{copiedValues}
 use Rattle.layout.proofs.copied_values.Statement.{statement}
 use Rattle.layout.proofs.copied_values.Tie as tie
 

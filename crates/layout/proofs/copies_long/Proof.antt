@@ -1,7 +1,7 @@
 use native.Mathlib.Omega.{arith}
 use borrow.Author.Tests.{le-leb, lt-leb}
-use Rattle.layout.specs.Bytes.{sum}
-use Rattle.layout.specs.Layout.{headWidths, sharedWidths, portWidths, setWidth, copiedWidths, copiesWidths, portPlace, copiesPlace}
+use Rattle.model.specs.Bytes.{sum}
+use Rattle.model.specs.Layout.{headWidths, sharedWidths, portWidths, setWidth, copiedWidths, copiesWidths, portPlace, copiesPlace}
 use borrow.Author.Needs.{needs}
 use Rattle.layout.proofs.copies_long.Statement.{statement}
 use Rattle.layout.proofs.copies_long.Tie as tie

@@ -1,5 +1,5 @@
 use mathlib.Core.Path.{refl}
-use Rattle.layout.specs.Layout.{copiesOf}
+use Rattle.model.specs.Layout.{copiesOf}
 use borrow.Author.Needs.{needs}
 use Rattle.layout.proofs.copies_of.Statement.{statement}
 use Rattle.layout.proofs.copies_of.Tie as tie

@@ -1,5 +1,5 @@
 use mathlib.Core.Path.{refl}
-use Rattle.layout.specs.Layout.{copiesValues}
+use Rattle.model.specs.Layout.{copiesValues}
 use Rattle.layout.proofs.copies_values.Statement.{statement}
 use Rattle.layout.proofs.copies_values.Tie as tie
 

@@ -1,5 +1,5 @@
-use Rattle.layout.specs.Bytes.{sum}
-use Rattle.layout.specs.Layout.{headWidths, sharedWidths, portWidths, version, portPlace, headValues}
+use Rattle.model.specs.Bytes.{sum}
+use Rattle.model.specs.Layout.{headWidths, sharedWidths, portWidths, version, portPlace, headValues}
 use borrow.Author.Needs.{needs}
 use Rattle.layout.proofs.head_values.Statement.{statement}
 use Rattle.layout.proofs.head_values.Tie as tie

@@ -1,4 +1,4 @@
-use Rattle.layout.specs.Layout.{portWidths, portOf}
+use Rattle.model.specs.Layout.{portWidths, portOf}
 use Rattle.layout.specs.Laws.Records.{packed-cut}
 use borrow.Author.Needs.{needs}
 use Rattle.layout.proofs.port_of.Statement.{statement}

@@ -1,6 +1,6 @@
 use native.Mathlib.Omega.{arith}
-use Rattle.layout.specs.Bytes.{sum}
-use Rattle.layout.specs.Layout.{headWidths, sharedWidths, portWidths, portPlace}
+use Rattle.model.specs.Bytes.{sum}
+use Rattle.model.specs.Layout.{headWidths, sharedWidths, portWidths, portPlace}
 use borrow.Author.Needs.{needs}
 use Rattle.layout.proofs.port_place.Statement.{statement}
 use Rattle.layout.proofs.port_place.Tie as tie

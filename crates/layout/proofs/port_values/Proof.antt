@@ -1,4 +1,4 @@
-use Rattle.layout.specs.Layout.{portValues}
+use Rattle.model.specs.Layout.{portValues}
 use borrow.Author.Needs.{needs}
 use Rattle.layout.proofs.port_values.Statement.{statement}
 use Rattle.layout.proofs.port_values.Tie as tie

@@ -1,6 +1,6 @@
 use native.Mathlib.Omega.{arith}
 use borrow.Author.Tests.{le-leb, lt-leb}
-use Rattle.layout.specs.Layout.{setWidth}
+use Rattle.model.specs.Layout.{setWidth}
 use Rattle.layout.proofs.set_width.Statement.{statement}
 use Rattle.layout.proofs.set_width.Tie as tie
 

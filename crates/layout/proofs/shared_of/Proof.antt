@@ -8,7 +8,7 @@ use mir.Val.{Val}
 use denote.Shadow.{shadow}
 use denote.Array.{each}
 use borrow.Kind.Array.{eInt}
-use Rattle.layout.specs.Layout.{sharedWidths, sharedOf}
+use Rattle.model.specs.Layout.{sharedWidths, sharedOf}
 use Rattle.layout.specs.Laws.Records.{packed-cut}
 use borrow.Author.Needs.{needs}
 use Rattle.layout.proofs.shared_of.Statement.{statement}

@@ -1,4 +1,4 @@
-use Rattle.layout.specs.Layout.{sharedValues}
+use Rattle.model.specs.Layout.{sharedValues}
 use borrow.Author.Needs.{needs}
 use Rattle.layout.proofs.shared_values.Statement.{statement}
 use Rattle.layout.proofs.shared_values.Tie as tie

@@ -1,4 +1,4 @@
-use Rattle.layout.specs.Layout.{size}
+use Rattle.model.specs.Layout.{size}
 use borrow.Author.Needs.{needs}
 use Rattle.layout.proofs.size.Statement.{statement}
 use Rattle.layout.proofs.size.Tie as tie

@@ -1,5 +1,5 @@
 use borrow.Author.Tests.{le-leb, lt-leb}
-use Rattle.layout.specs.Layout.{version}
+use Rattle.model.specs.Layout.{version}
 use Rattle.layout.proofs.version.Statement.{statement}
 use Rattle.layout.proofs.version.Tie as tie
 

@@ -8,7 +8,7 @@ use native.Mathlib.Omega.{arith}
 use lib.Arith.{mod-mul}
 use lib.ListN.{length, getD, take, drop, length-take}
 use lib.Seq.{getD-drop, drop-cons}
-use Rattle.layout.specs.Bytes.{Bytes, little, value}
+use Rattle.model.specs.Bytes.{Bytes, little, value}
 
 pub bytes-nil : Bytes []
 bytes-nil i = omega arith

@@ -7,8 +7,8 @@ use native.Mathlib.Nat.{suc-mul, mul-le-mul-right}
 use native.Mathlib.Omega.{arith}
 use lib.Dec.{leb}
 use borrow.Author.Tests.{le-leb, lt-leb}
-use Rattle.layout.specs.Bytes.{sum}
-use Rattle.layout.specs.Layout.{sharedWidths, portWidths, setWidth, copiedWidths, copiesWidths, headWidths, portPlace, copiesPlace, size}
+use Rattle.model.specs.Bytes.{sum}
+use Rattle.model.specs.Layout.{sharedWidths, portWidths, setWidth, copiedWidths, copiesWidths, headWidths, portPlace, copiesPlace, size}
 
 -- the records of the image of d ports lie inside it
 module _ (d : ℕ) where

@@ -7,7 +7,7 @@ use native.Mathlib.Numerals.{add-one}
 use native.Mathlib.Omega.{arith}
 use lib.ListN.{length, getD, take, drop, length-append, length-drop, length-map}
 use lib.Seq.{take-at, drop-at, take-add, length-take-le, getD-drop, drop-drop}
-use Rattle.layout.specs.Bytes.{Bytes, little, value, sum, pack, unpack, unpacks}
+use Rattle.model.specs.Bytes.{Bytes, little, value, sum, pack, unpack, unpacks}
 use Rattle.layout.specs.Laws.Digits.{bytes-nil, bytes-append, bytes-drop, bytes-take, length-little, little-bytes, value-little, value-cut, little-value, value-fits}
 
 -- there is a value for every width, and it fits

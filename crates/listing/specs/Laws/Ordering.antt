@@ -11,11 +11,8 @@ use lib.Seq.{getD-set-same, map-set-same}
 use Rattle.model.specs.declared.Port.{Port}
 use Rattle.model.specs.declared.Table.{Table}
 use Rattle.model.specs.declared.Touch.{Touch}
-use Rattle.model.specs.declared.Outcome.{Outcome}
 use Rattle.model.specs.Table.{room, noPort, portAt, copiesAt, Sized}
 use Rattle.model.specs.Points.{pointOf}
-use Rattle.model.specs.Event.{numberOf}
-use Rattle.model.specs.Run.{codeOf}
 use Rattle.model.specs.Parts.Charges.{touchAt, home}
 use Rattle.model.specs.Parts.Steps.{touchOf}
 use Rattle.model.specs.Parts.Rules.{slotOf}
@@ -24,7 +21,7 @@ use Rattle.model.specs.Laws.Paid.{paid-sized, paid-cost}
 use Rattle.rules.specs.Check.{slot-own}
 use Rattle.lock.specs.declared.orders.Acted.{Acted}
 use Rattle.lock.specs.Sight.{setAt}
-use Rattle.lock.specs.Single.{number-small}
+use Rattle.lock.specs.Single.{plainOf, decoded, paid-code}
 use Rattle.lock.specs.Parts.{actedOn}
 use Rattle.lock.specs.Acted.{joined}
 use Rattle.lock.specs.Placed.{actedAt, placed}
@@ -49,14 +46,6 @@ pub on-records : (t : Table) {port e k j h : ℕ} {u : Touch} {l : Acted}
 unfolding touchOf
 on-records t a p q b r = record { own = a; touched = rw (q, p) at b; leaves = rw p at r }
 
--- the digits of a code
-decoded : (o : Outcome) → o .cached < 256
-    → (codeOf o % 256 ≡ numberOf (o .answer)) × (codeOf o / 256 % 256 ≡ o .cached) × (codeOf o / 65536 ≡ o .distributed)
-unfolding codeOf
-decoded o h =
-    let n = number-small (o .answer) in
-    (omega (arith, n), omega (arith, n, h), omega (arith, n, h))
-
 -- a spin that is set leaves every point as it was
 abbrev point : Port → ℕ
 point p = p .point
@@ -69,8 +58,8 @@ points-kept b ps j i =
 
 module _ {t : Table} {port e k j : ℕ} {l : Acted} (o : OnRecords t port e k j l) where
   -- what it leaves, stored, is the table after the order, and its number is what the order answers
-  pub code-after : l .code ≡ codeOf (paidEvent t port e)
-  code-after = rw (o .leaves) (placed t port e k j (o .own) (o .touched) .code)
+  pub code-after : l .code ≡ plainOf (paidEvent t port e)
+  code-after = rw (o .leaves) (placed t port e k j (o .own) (o .touched) .code) ∙ paid-code t port e
 
   pub table-after : joined t k j l ≡ paidEvent t port e .table
   table-after = rw (o .leaves) (placed t port e k j (o .own) (o .touched) .table)

@@ -9,8 +9,8 @@ use lib.Dec.{eqb, leb}
 use lib.ListN.{length, drop}
 use lib.Seq.{append-snoc}
 use Rattle.model.specs.declared.Table.{Table}
-use Rattle.model.specs.Table.{Sized}
-use Rattle.model.specs.Good.{sizeGood, good}
+use Rattle.model.specs.Table.{Sized, sizeGood}
+use Rattle.model.specs.Good.{good}
 use Rattle.model.specs.Event.{fresh}
 use Rattle.model.specs.Run.{order}
 use Rattle.model.specs.Paid.{paidEvent}

@@ -13,7 +13,7 @@ use Rattle.model.specs.declared.Table.{Table}
 use Rattle.model.specs.declared.Answer.{Answer}
 use Rattle.model.specs.declared.Answer.the-variants.{Done, BadTable, NoSuchPort}
 use Rattle.model.specs.Table.{room, most, noWork, portAt, putPort}
-use Rattle.model.specs.Good.{good}
+use Rattle.model.specs.Good.{good, badIn}
 use Rattle.model.specs.Cost.{free}
 use Rattle.model.specs.Step.{at, withFlag, withWork}
 use Rattle.model.specs.Event.{numberOf, enter, stepping, crash, callOff, leave, firstOf, refusals, refusal, ordered, event}
@@ -137,7 +137,7 @@ module _ (t : Table) (o : Order) where
       → (good t ≡ true) × (o .port < t .shared .d) × Unrefused (o .event) (portAt t (o .port))
   unfolding refusal refuses refusals Unrefused
   unrefused e =
-      let h = unpassed ((not (good t), BadTable) ∷ (leb (t .shared .d) (o .port), NoSuchPort) ∷ refusals (o .event) (portAt t (o .port))) refl (eqb-true _ _ e) in
+      let h = unpassed ((not (good t), BadTable (badIn t)) ∷ (leb (t .shared .d) (o .port), NoSuchPort) ∷ refusals (o .event) (portAt t (o .port))) refl (eqb-true _ _ e) in
       (not-false _ (h 0), leb-false _ _ (h 1), λ i. h (suc (suc i)))
 
   -- every order is one of the three

@@ -11,13 +11,15 @@ use lib.ListN.{List·getD-eq-default}
 use borrow.Author.Tests.{eqb-true, le-ltb}
 use Rattle.model.specs.declared.Port.{Port}
 use Rattle.model.specs.declared.Table.{Table}
-use Rattle.model.specs.Table.{room, noPort, portAt, putPort, freshTable, Sized}
+use Rattle.model.specs.Table.{room, noPort, portAt, putPort, freshTable, Sized, sizeGood}
 use Rattle.model.specs.Points.{x5, tens, pointOf, settled}
-use Rattle.model.specs.Good.{everyBelow, sizeGood, sharedGood, portEmpty, placeGood, good}
+use Rattle.model.specs.Good.{everyBelow, good}
+use Rattle.model.specs.Parts.Good.{sharedGood, portEmpty, placeGood, allGood}
 use Rattle.model.specs.Event.{ordered}
 use Rattle.model.specs.Parts.Steps.{viewOf, moveOf, stepped}
 use Rattle.model.specs.Run.{Order, after}
 use Rattle.model.specs.Laws.Tests.{conjunct, every-below}
+use Rattle.model.specs.Laws.Listed.{good-all}
 use Rattle.model.specs.Laws.Rules.{port-rules}
 use Rattle.model.specs.Laws.Cases.{Allowed, enters, crashes, callsOff, leaves, after-case}
 use Rattle.model.specs.Laws.Own.{numberOfPoint, number}
@@ -188,9 +190,9 @@ module _ (t : Table) (k : ℕ) (z : Sized t) (fits : k < room) where
 
 -- room kept for ports at or above D is all 0, so a port that is not at 0 is below D
 idle-beyond : (t : Table) (k : ℕ) → Sized t → good t ≡ true → t .shared .d ≤ k → portAt t k .point ≡ 0
-unfolding good placeGood portEmpty
+unfolding allGood placeGood portEmpty
 idle-beyond t k z e h =
-    let places = and-eq-true-iff (sizeGood (t .shared .d) && sharedGood (t .shared) _) (everyBelow room (placeGood t)) .0 e .1 in
+    let places = and-eq-true-iff (sizeGood (t .shared .d) && sharedGood (t .shared) _) (everyBelow room (placeGood t)) .0 (sym (good-all t) ∙ e) .1 in
     elim (decLt k room) [
       | yes f ↦
           let empty = rw (le-ltb k (t .shared .d) h) at (every-below room (placeGood t) places k f) in

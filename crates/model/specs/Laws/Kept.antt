@@ -10,9 +10,10 @@ use lib.Pow.{pow-pos}
 use lib.ListN.{getD-replicate}
 use Rattle.model.specs.declared.Table.{Table}
 use Rattle.model.specs.declared.Made.{Made}
-use Rattle.model.specs.Table.{room, noPort, noCopies, freshTable, Sized}
+use Rattle.model.specs.Table.{room, noPort, noCopies, freshTable, Sized, sizeGood}
 use Rattle.model.specs.Points.{oneOf, ownPlace, seenPlace, candidatePlace, candidateSpinPlace}
-use Rattle.model.specs.Good.{named, sizeGood, portEmpty, good}
+use Rattle.model.specs.Good.{named, good}
+use Rattle.model.specs.Parts.Good.{portEmpty}
 use Rattle.model.specs.Event.{fresh}
 use Rattle.model.specs.Run.{Order, after, ran}
 use Rattle.model.specs.Laws.Tests.{split}

@@ -10,7 +10,8 @@ use Rattle.model.specs.declared.Table.{Table}
 use Rattle.model.specs.Table.{room, most, portAt, copiesAt, Sized}
 use Rattle.model.specs.Mask.{stands}
 use Rattle.model.specs.Points.{settled}
-use Rattle.model.specs.Good.{portEmpty, good}
+use Rattle.model.specs.Good.{good}
+use Rattle.model.specs.Parts.Good.{portEmpty}
 use Rattle.model.specs.Parts.Steps.{touchOf, homeOf, moveOf, copiesAfter, chargeOf, stepped}
 use Rattle.model.specs.Laws.Tests.{split}
 use Rattle.model.specs.Laws.After.{step-after, copies-home, copies-other, home-below}

@@ -10,7 +10,7 @@ use Rattle.model.specs.declared.Table.{Table}
 use Rattle.model.specs.declared.View.{View}
 use Rattle.model.specs.Table.{portAt}
 use Rattle.model.specs.Points.{Point, none, p0, p1, p2, p3, p4, p5, p6, p8, p9, p10, p11, p12, p13, p14, p15, p16, p17, p18, p19, x0, x1, x2, x3, x4, x5, tens, pointOf}
-use Rattle.model.specs.Good.{implies, everyBelow, named}
+use Rattle.model.specs.Good.{everyBelow, implies, named}
 use Rattle.model.specs.Parts.Moves.{view, step}
 use Rattle.model.specs.Parts.Charges.{touchAt, home}
 use Rattle.model.specs.Parts.Steps.{touchOf, homeOf, viewOf, moveOf}

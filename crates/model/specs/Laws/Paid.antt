@@ -7,8 +7,8 @@ use lib.Dec.{eqb, leb}
 use Rattle.model.specs.declared.Table.{Table}
 use Rattle.model.specs.declared.Outcome.{Outcome}
 use Rattle.model.specs.declared.Answer.the-variants.{BadTable, NoSuchPort}
-use Rattle.model.specs.Table.{Sized, portAt}
-use Rattle.model.specs.Good.{sizeGood, good}
+use Rattle.model.specs.Table.{Sized, portAt, sizeGood}
+use Rattle.model.specs.Good.{whole, good}
 use Rattle.model.specs.Cost.{free}
 use Rattle.model.specs.Event.{numberOf, firstOf, refusals, refusal, stepping, event}
 use Rattle.model.specs.Paid.{placed, paidAnswer, paidEvent}
@@ -36,7 +36,7 @@ paid-cost t k e = split Small (eqb (numberOf (paidAnswer (t .shared) k e (portAt
 module _ (t : Table) (k e : ℕ) (g : good t ≡ true) where
   -- what it answers, at a port that there is and at one that there isn't
   at-port : (b : Bool) → leb (t .shared .d) k ≡ b
-      → cond b NoSuchPort (cond (not (placed (t .shared .d) (portAt t k))) BadTable (firstOf (refusals e (portAt t k)))) ≡ cond b NoSuchPort (firstOf (refusals e (portAt t k)))
+      → cond b NoSuchPort (cond (not (placed (t .shared .d) (portAt t k))) (BadTable whole) (firstOf (refusals e (portAt t k)))) ≡ cond b NoSuchPort (firstOf (refusals e (portAt t k)))
   unfolding placed
   at-port true q = refl
   at-port false q =

@@ -1,16 +1,18 @@
 -- The rules of a good table, one by one, as facts on numbers.
-use mathlib.Core.Path.{_≡_, ap}
+use mathlib.Core.Path.{_≡_, sym, ap, _∙_}
 use mathlib.Core.Bool.{Bool, true, false, not, _&&_, and-eq-true-iff}
 use mathlib.Core.List.{[], _∷_}
 use Prim.Native.Nat.{ℕ, _+_, _≤_, _<_}
 use native.Mathlib.Nat.{le-trans}
 use borrow.Author.Tests.{ltb-true, leb-true, eqb-true, eq-eqb, lt-ltb, not-true}
 use Rattle.model.specs.declared.Table.{Table}
-use Rattle.model.specs.Table.{room, most, ABORT, portAt, copiesAt}
+use Rattle.model.specs.Table.{room, most, ABORT, portAt, copiesAt, sizeGood}
 use Rattle.model.specs.Mask.{stands, within}
 use Rattle.model.specs.Points.{Tens, two, three, four, tens, oneOf, candidateSpinPlace}
-use Rattle.model.specs.Good.{everyBelow, named, sizeGood, sharedGood, fieldsGood, workGood, copiesGood, placeGood, good}
+use Rattle.model.specs.Good.{everyBelow, named, good}
+use Rattle.model.specs.Parts.Good.{sharedGood, fieldsGood, workGood, copiesGood, portGood, placeGood, allGood}
 use Rattle.model.specs.Laws.Tests.{conjunct, implied, every-below}
+use Rattle.model.specs.Laws.Listed.{good-all}
 
 -- what holds of the number of ports, of ACTIVE, of the word, and of their copy sets
 pub record SharedRules (t : Table) : Type 0 where
@@ -24,9 +26,9 @@ pub record SharedRules (t : Table) : Type 0 where
   pub spin : t .shared .word .spin ≤ portAt t (t .shared .word .owner) .made
 
 pub shared-rules : (t : Table) → good t ≡ true → SharedRules t
-unfolding good sizeGood sharedGood
+unfolding allGood sizeGood sharedGood
 shared-rules t e =
-    let groups = conjunct _ (_ ∷ _ ∷ []) e in
+    let groups = conjunct _ (_ ∷ _ ∷ []) (sym (good-all t) ∙ e) in
     let size = conjunct _ (_ ∷ []) (groups 0) in
     let shared = conjunct _ (_ ∷ _ ∷ _ ∷ _ ∷ _ ∷ []) (groups 1) in
     record {
@@ -72,22 +74,10 @@ setting-point three n q = rw q
 setting-point four n q = rw q
 
 -- the tests of port k pass
-abbrev pub portGood : Table → ℕ → Bool
-portGood t k =
-    fieldsGood (t .shared .active) k (portAt t k)
-    && workGood
-    (t .shared .d)
-    (portAt t k .point)
-    (portAt t k .made)
-    (portAt t (portAt t k .work .seenowner) .made)
-    (portAt t (portAt t k .work .candidate) .made)
-    (portAt t k .work)
-    && copiesGood (t .shared .d) (portAt t k .made) (copiesAt t k)
-
 pub port-good : (t : Table) (k : ℕ) → good t ≡ true → k < t .shared .d → portGood t k ≡ true
-unfolding good placeGood
+unfolding allGood placeGood
 port-good t k e h =
-    let places = and-eq-true-iff (sizeGood (t .shared .d) && sharedGood (t .shared) _) (everyBelow room (placeGood t)) .0 e .1 in
+    let places = and-eq-true-iff (sizeGood (t .shared .d) && sharedGood (t .shared) _) (everyBelow room (placeGood t)) .0 (sym (good-all t) ∙ e) .1 in
     rw (lt-ltb k (t .shared .d) h) at (every-below room (placeGood t) places k (le-trans h (shared-rules t e .fits)))
 
 pub port-rules : (t : Table) (k : ℕ) → good t ≡ true → k < t .shared .d → PortRules t k

@@ -1,5 +1,5 @@
 -- A good table by plain facts: what holds of a good one, and what is enough to make one good.
-use mathlib.Core.Path.{_≡_, refl}
+use mathlib.Core.Path.{_≡_, refl, sym, _∙_}
 use mathlib.Core.Bool.{Bool, true, false, not, _&&_, and-eq-true-iff}
 use mathlib.Core.List.{[], _∷_}
 use Prim.Native.Nat.{ℕ, zero, suc, _^_, _≤_, _<_}
@@ -13,27 +13,15 @@ use Rattle.model.specs.declared.Port.{Port}
 use Rattle.model.specs.declared.Copies.{Copies}
 use Rattle.model.specs.declared.Shared.{Shared}
 use Rattle.model.specs.declared.Table.{Table}
-use Rattle.model.specs.Table.{room, most, ABORT, portAt, copiesAt}
+use Rattle.model.specs.Table.{room, most, ABORT, portAt, copiesAt, sizeGood}
 use Rattle.model.specs.Mask.{stands}
 use Rattle.model.specs.Points.{oneOf, ownPlace, seenPlace, candidatePlace, candidateSpinPlace}
-use Rattle.model.specs.Good.{implies, everyBelow, named, sizeGood, sharedGood, fieldsGood, workGood, copiesGood, portEmpty, placeGood, good}
-use Rattle.model.specs.Laws.Tests.{conjunct, every-below}
+use Rattle.model.specs.Good.{everyBelow, implies, named, good}
+use Rattle.model.specs.Parts.Good.{sharedGood, fieldsGood, workGood, copiesGood, portEmpty, portGood, placeGood, allGood}
+use Rattle.model.specs.Laws.Tests.{_and_, implying, conjunct, every-below, below-every}
 use Rattle.model.specs.Laws.Mask.{within-lt, lt-within}
-use Rattle.model.specs.Laws.Rules.{portGood, PortRules, shared-rules, port-good, port-rules}
-
--- two tests that pass, a test that passes where another does, and a test that passes for every number below n
-infixl 35 _and_
-_and_ : {a b : Bool} → a ≡ true → b ≡ true → (a && b) ≡ true
-_and_ {a} {b} p q = and-eq-true-iff a b .1 (p, q)
-
-implying : (a b : Bool) → (a ≡ true → b ≡ true) → implies a b ≡ true
-implying true b f = f refl
-implying false b f = refl
-
-below-every : (n : ℕ) (f : ℕ → Bool) → ((k : ℕ) → k < n → f k ≡ true) → everyBelow n f ≡ true
-unfolding everyBelow
-below-every zero f h = refl
-below-every (suc n) f h = below-every n f (λ k l. h k (omega arith)) and h n (omega arith)
+use Rattle.model.specs.Laws.Listed.{good-all}
+use Rattle.model.specs.Laws.Rules.{PortRules, shared-rules, port-good, port-rules}
 
 -- how many spins each port has made
 abbrev pub madeOf : Table → ℕ → ℕ
@@ -116,9 +104,9 @@ made-value v m h = implying _ _ (λ (q : eqb m 0 ≡ true). eq-eqb v 0 (omega (a
 
 -- the rules of a good table for the room at or above D, and for a port
 place-empty : (t : Table) (k : ℕ) → good t ≡ true → t .shared .d ≤ k → k < room → portEmpty (portAt t k) (copiesAt t k) ≡ true
-unfolding good placeGood
+unfolding allGood placeGood
 place-empty t k e l h =
-    let groups = and-eq-true-iff (sizeGood (t .shared .d) && sharedGood (t .shared) _) (everyBelow room (placeGood t)) .0 e in
+    let groups = and-eq-true-iff (sizeGood (t .shared .d) && sharedGood (t .shared) _) (everyBelow room (placeGood t)) .0 (sym (good-all t) ∙ e) in
     rw (le-ltb k (t .shared .d) l) at (every-below room (placeGood t) (groups .1) k h)
 
 port-bounds : (t : Table) (k : ℕ) → PortRules t k → Bounds (t .shared .d) (madeOf t) (portAt t k)
@@ -188,10 +176,10 @@ fit-good t k f c =
     and implying _ _ (λ q. eq-eqb _ _ (c .1 (eqb-true _ _ q))))
 
 pub sound-good : (t : Table) → Sound t → good t ≡ true
-unfolding good sizeGood sharedGood placeGood
+unfolding allGood sizeGood sharedGood placeGood
 sound-good t s =
     let w = s .word in
-    (le-leb _ _ (s .some) and le-leb _ _ (s .fits))
+    good-all t ∙ (le-leb _ _ (s .some) and le-leb _ _ (s .fits))
     and (le-leb _ _ (w .taken)
     and lt-within _ _ (s .bits)
     and lt-within _ _ (s .shared .active)

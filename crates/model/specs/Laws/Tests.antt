@@ -7,7 +7,7 @@ use native.Mathlib.Nat.{not-suc-le-zero}
 use native.Mathlib.Decide.{ℕ-discrete}
 use native.Mathlib.Omega.{arith}
 use lib.ListN.{getD}
-use Rattle.model.specs.Good.{implies, everyBelow}
+use Rattle.model.specs.Good.{everyBelow, implies}
 
 -- tests joined by `&&` from the left; where that passes, each of them does
 abbrev pub chain : Bool → List Bool → Bool
@@ -42,3 +42,17 @@ every-below (suc n) f e k h = elim (ℕ-discrete k n) [
 pub split : {A : Type 0} (P : A → Type 0) (b : Bool) (x y : A) → (b ≡ true → P x) → (b ≡ false → P y) → P (cond b x y)
 split P true x y f g = f refl
 split P false x y f g = g refl
+
+-- two tests that pass, a test that passes where another does, and a test that passes for every number below n
+infixl 35 _and_
+pub _and_ : {a b : Bool} → a ≡ true → b ≡ true → (a && b) ≡ true
+_and_ {a} {b} p q = and-eq-true-iff a b .1 (p, q)
+
+pub implying : (a b : Bool) → (a ≡ true → b ≡ true) → implies a b ≡ true
+implying true b f = f refl
+implying false b f = refl
+
+pub below-every : (n : ℕ) (f : ℕ → Bool) → ((k : ℕ) → k < n → f k ≡ true) → everyBelow n f ≡ true
+unfolding everyBelow
+below-every zero f h = refl
+below-every (suc n) f h = below-every n f (λ k l. h k (omega arith)) and h n (omega arith)

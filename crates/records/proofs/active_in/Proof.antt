@@ -1,7 +1,7 @@
 use mathlib.Core.Path.{ap}
 use borrow.Author.Needs.{needs}
 use Rattle.model.specs.declared.Shared.{Shared}
-use Rattle.layout.specs.Layout.{sharedOf}
+use Rattle.model.specs.Layout.{sharedOf}
 use Rattle.records.proofs.active_in.Statement.{statement}
 use Rattle.records.proofs.active_in.Tie as tie
 

@@ -3,7 +3,7 @@ use mathlib.Core.List.{[], _∷_}
 use Prim.Native.Nat.{ℕ}
 use native.Mathlib.Omega.{arith}
 use borrow.Author.Needs.{needs}
-use Rattle.layout.specs.Bytes.{sum}
+use Rattle.model.specs.Bytes.{sum}
 use Rattle.layout.specs.Laws.Inside.{copied-narrow, copied-wide}
 use Rattle.records.specs.Records.{there, filled}
 use Rattle.records.proofs.copied_in.Statement.{statement}

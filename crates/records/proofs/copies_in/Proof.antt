@@ -3,8 +3,8 @@ use mathlib.Core.List.{[], _∷_}
 use Prim.Native.Nat.{ℕ}
 use native.Mathlib.Omega.{arith}
 use borrow.Author.Needs.{needs}
-use Rattle.layout.specs.Bytes.{sum}
-use Rattle.layout.specs.Layout.{copiesOf}
+use Rattle.model.specs.Bytes.{sum}
+use Rattle.model.specs.Layout.{copiesOf}
 use Rattle.layout.specs.Laws.Inside.{copies-narrow, copies-wide}
 use Rattle.records.specs.Records.{there}
 use Rattle.records.specs.Laws.There.{made}

@@ -3,8 +3,8 @@ use mathlib.Core.List.{List, []}
 use Prim.Native.Nat.{ℕ}
 use native.Mathlib.Omega.{arith}
 use borrow.Author.Needs.{needs}
-use Rattle.layout.specs.Bytes.{sum}
-use Rattle.layout.specs.Layout.{sharedWidths, headWidths, sharedOf}
+use Rattle.model.specs.Bytes.{sum}
+use Rattle.model.specs.Layout.{sharedWidths, headWidths, sharedOf}
 use Rattle.records.specs.Laws.There.{kept}
 use Rattle.records.proofs.front_in.Statement.{statement}
 use Rattle.records.proofs.front_in.Tie as tie

@@ -2,8 +2,8 @@ use mathlib.Core.Path.{refl, ap, _∙_}
 use Prim.Native.Nat.{ℕ}
 use native.Mathlib.Omega.{arith}
 use borrow.Author.Needs.{needs}
-use Rattle.layout.specs.Bytes.{sum}
-use Rattle.layout.specs.Layout.{portWidths, portOf}
+use Rattle.model.specs.Bytes.{sum}
+use Rattle.model.specs.Layout.{portWidths, portOf}
 use Rattle.records.specs.Records.{there}
 use Rattle.records.specs.Laws.There.{kept}
 use Rattle.records.proofs.port_in.Statement.{statement}

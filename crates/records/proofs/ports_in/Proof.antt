@@ -4,8 +4,8 @@ use borrow.Author.Tests.{not-true, not-false}
 use lib.ListN.{replicate}
 use Rattle.model.specs.Table.{room}
 use Rattle.rules.specs.Check.{size-good-fits}
-use Rattle.layout.specs.Bytes.{sum, unpack}
-use Rattle.layout.specs.Layout.{headWidths}
+use Rattle.model.specs.Bytes.{sum, unpack}
+use Rattle.model.specs.Layout.{headWidths}
 use Rattle.records.specs.Laws.Head.{too-short, wrong-size, wrong-length, wrong-head, right}
 use Rattle.records.specs.Laws.There.{got}
 use borrow.Author.Needs.{needs}

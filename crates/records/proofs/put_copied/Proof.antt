@@ -1,8 +1,8 @@
 use mathlib.Core.Path.{refl}
 use native.Mathlib.Omega.{arith}
 use borrow.Author.Needs.{needs}
-use Rattle.layout.specs.Bytes.{sum}
-use Rattle.layout.specs.Layout.{copiedValues}
+use Rattle.model.specs.Bytes.{sum}
+use Rattle.model.specs.Layout.{copiedValues}
 use Rattle.layout.specs.Laws.Inside.{copied-narrow, copied-wide}
 use Rattle.records.proofs.put_copied.Statement.{statement}
 use Rattle.records.proofs.put_copied.Tie as tie

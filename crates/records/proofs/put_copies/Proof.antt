@@ -1,8 +1,8 @@
 use mathlib.Core.Path.{refl}
 use native.Mathlib.Omega.{arith}
 use borrow.Author.Needs.{needs}
-use Rattle.layout.specs.Bytes.{sum}
-use Rattle.layout.specs.Layout.{copiesValues}
+use Rattle.model.specs.Bytes.{sum}
+use Rattle.model.specs.Layout.{copiesValues}
 use Rattle.layout.specs.Laws.Inside.{copies-narrow, copies-wide}
 use Rattle.records.proofs.put_copies.Statement.{statement}
 use Rattle.records.proofs.put_copies.Tie as tie

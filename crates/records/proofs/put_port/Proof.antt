@@ -1,8 +1,8 @@
 use mathlib.Core.Path.{refl}
 use native.Mathlib.Omega.{arith}
 use borrow.Author.Needs.{needs}
-use Rattle.layout.specs.Bytes.{sum}
-use Rattle.layout.specs.Layout.{portWidths, portValues}
+use Rattle.model.specs.Bytes.{sum}
+use Rattle.model.specs.Layout.{portWidths, portValues}
 use Rattle.records.proofs.put_port.Statement.{statement}
 use Rattle.records.proofs.put_port.Tie as tie
 

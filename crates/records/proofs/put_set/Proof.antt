@@ -1,9 +1,9 @@
 use mathlib.Core.Path.{refl}
 use native.Mathlib.Omega.{arith}
 use borrow.Author.Needs.{needs}
-use Rattle.layout.specs.Bytes.{sum}
+use Rattle.model.specs.Bytes.{sum}
 use borrow.Author.Tests.{le-leb, lt-leb}
-use Rattle.layout.specs.Layout.{setWidth}
+use Rattle.model.specs.Layout.{setWidth}
 use Rattle.records.proofs.put_set.Statement.{statement}
 use Rattle.records.proofs.put_set.Tie as tie
 

@@ -1,8 +1,8 @@
 use mathlib.Core.Path.{refl}
 use native.Mathlib.Omega.{arith}
 use borrow.Author.Needs.{needs}
-use Rattle.layout.specs.Bytes.{sum}
-use Rattle.layout.specs.Layout.{headWidths}
+use Rattle.model.specs.Bytes.{sum}
+use Rattle.model.specs.Layout.{headWidths}
 use Rattle.layout.specs.Places.{wordPlace}
 use Rattle.records.proofs.put_word.Statement.{statement}
 use Rattle.records.proofs.put_word.Tie as tie

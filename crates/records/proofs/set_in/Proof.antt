@@ -5,8 +5,8 @@ use native.Mathlib.Omega.{arith}
 use borrow.Author.Needs.{needs}
 use borrow.Author.Tests.{le-leb, lt-leb}
 use lib.ListN.{getD}
-use Rattle.layout.specs.Bytes.{sum}
-use Rattle.layout.specs.Layout.{setWidth}
+use Rattle.model.specs.Bytes.{sum}
+use Rattle.model.specs.Layout.{setWidth}
 use Rattle.records.specs.Laws.There.{made}
 use Rattle.records.proofs.set_in.Statement.{statement}
 use Rattle.records.proofs.set_in.Tie as tie

@@ -3,8 +3,8 @@ use mathlib.Core.List.{List}
 use Prim.Native.Nat.{ℕ}
 use native.Mathlib.Omega.{arith}
 use borrow.Author.Needs.{needs}
-use Rattle.layout.specs.Bytes.{sum}
-use Rattle.layout.specs.Layout.{sharedWidths, copiedWidths, headWidths, portPlace, sharedOf}
+use Rattle.model.specs.Bytes.{sum}
+use Rattle.model.specs.Layout.{sharedWidths, copiedWidths, headWidths, portPlace, sharedOf}
 use Rattle.records.specs.Records.{there, filled}
 use Rattle.records.specs.Laws.There.{made, kept}
 use Rattle.records.proofs.shared_in.Statement.{statement}

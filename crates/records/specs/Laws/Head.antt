@@ -7,10 +7,9 @@ use native.Mathlib.Omega.{arith}
 use borrow.Author.Tests.{eqb-true, eq-eqb, ne-eqb, leb-true}
 use lib.Dec.{eqb, leb}
 use lib.ListN.{length, getD}
-use Rattle.model.specs.Table.{room}
-use Rattle.model.specs.Good.{sizeGood}
-use Rattle.layout.specs.Bytes.{sum, unpack}
-use Rattle.layout.specs.Layout.{headWidths, headValues, size, dIn, isImage}
+use Rattle.model.specs.Table.{room, sizeGood}
+use Rattle.model.specs.Bytes.{sum, unpack}
+use Rattle.model.specs.Layout.{headWidths, headValues, size, dIn, isImage}
 use Rattle.layout.specs.Laws.Inside.{start-inside, copied-inside}
 use Rattle.records.specs.Records.{portsIn}
 use Rattle.records.specs.Laws.Rows.{same}

@@ -10,7 +10,7 @@ use borrow.Author.Tests.{leb-true}
 use lib.Dec.{leb, eqb}
 use lib.ListN.{length, getD, set, take, drop, length-drop, length-set}
 use lib.Seq.{sets, length-sets, take-add, drop-cons, getD-take, getD-drop, drop-drop, drop-length, length-take-le}
-use Rattle.layout.specs.Bytes.{Bytes, little, value, sum, pack, unpack}
+use Rattle.model.specs.Bytes.{Bytes, little, value, sum, pack, unpack}
 use Rattle.layout.specs.Laws.Digits.{bytes-drop, bytes-take, length-little, value-below, value-from}
 
 -- no field is wider than the code's numbers

@@ -9,7 +9,7 @@ use borrow.Author.Tests.{leb-true, leb-false, le-leb, lt-leb}
 use lib.Dec.{leb}
 use lib.ListN.{length, drop, replicate, drop-of-length-le, length-replicate}
 use lib.Seq.{sets, sets-eq}
-use Rattle.layout.specs.Bytes.{Bytes, sum, pack, unpack}
+use Rattle.model.specs.Bytes.{Bytes, sum, pack, unpack}
 use Rattle.layout.specs.Laws.Digits.{bytes-drop}
 use Rattle.layout.specs.Laws.Records.{Fits, length-unpack, unpack-fits, unpack-packed}
 use Rattle.records.specs.Records.{there, putAt}

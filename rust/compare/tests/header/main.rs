@@ -8,12 +8,12 @@
 
 mod print;
 
-use compare::generate::{any_order, good_table, size};
+use compare::generate::{any_order, bad_table, good_table, size};
 use compare::{Archive, Engine, Random};
 use print::{code, name, printed};
-use reference::{event_unchecked, length, write, Port, Table, Word, LONGEST, ROOM};
+use reference::{bad, event_unchecked, image, length, write, Port, Table, Word, LONGEST, ROOM};
 use std::collections::BTreeSet;
-use yarvelow::{Event, Refusal};
+use yarvelow::{Event, Kind, Refusal};
 
 /// The definitions of answers and events.
 const DEFINITIONS: &str = include_str!("../../../../crates/model/specs/Event.antt");
@@ -21,13 +21,14 @@ const DEFINITIONS: &str = include_str!("../../../../crates/model/specs/Event.ant
 const CALLS: &str = include_str!("../../../yarvelow/tests/header.c");
 
 /// The answers and events of the definitions, named as in the header, with their numbers. The lines are like these:
-/// `numberOf BadTable = 1` and `callOff = 4`.
+/// `numberOf (BadTable f) = 1`, `numberOf Idle = 7` and `callOff = 4`.
 fn defined() -> Vec<(String, u64)> {
     let definition = |line: &str| {
         let (left, right) = line.split_once(" = ")?;
         let number = right.parse().ok()?;
+        let case = left.trim_start_matches("numberOf ").trim_start_matches('(');
         let mut name = String::from("YARVELOW");
-        for (i, c) in left.trim_start_matches("numberOf ").chars().enumerate() {
+        for (i, c) in case.split(' ').next()?.chars().enumerate() {
             if i == 0 || c.is_uppercase() {
                 name.push('_');
             }
@@ -78,8 +79,19 @@ const OF_A_PORT: [Place<Port>; 4] = [
     ("YARVELOW_GO", two, |p| p.go.into()),
 ];
 
-/// An answer, its number, its length, and its two costs; a part that it does not have is none.
-type Parts = (u64, Option<u64>, Option<u64>, Option<u64>, Option<u64>);
+/// The functions that take an answer apart.
+const PARTS: [&str; 7] = [
+    "yarvelow_number_of",
+    "yarvelow_length_of",
+    "yarvelow_cached_of",
+    "yarvelow_distributed_of",
+    "yarvelow_kind_of",
+    "yarvelow_port_of",
+    "yarvelow_place_of",
+];
+
+/// An answer and what those functions are to give; none where it isn't theirs to say.
+type Parts = (u64, [Option<u64>; 7]);
 
 /// Answers of the archive with the parts that the reference has for them; those of events also with more above them.
 fn answers(tables: &[(Table, Vec<u8>)]) -> Vec<Parts> {
@@ -88,15 +100,34 @@ fn answers(tables: &[(Table, Vec<u8>)]) -> Vec<Parts> {
         let (number, _) = reference::fresh(d);
         let long = if number == 0 { length(d as usize) } else { 0 };
         let answer = Archive.fresh(d, &mut [0; LONGEST]);
-        all.push((answer, Some(number), Some(long as u64), None, None));
+        let (number, long) = (Some(number), Some(long as u64));
+        all.push((
+            answer,
+            [number, long, None, None, Some(0), Some(0), Some(0)],
+        ));
     }
     let mut random = Random::new(4);
     for (t, image) in tables {
         let (port, event) = any_order(&mut random, t.d.into());
         let (number, cached, distributed) = event_unchecked(&mut t.clone(), port, event);
         let answer = Archive.event(&mut image.clone(), port, event);
+        let (number, cached, distributed) = (Some(number), Some(cached), Some(distributed));
         for answer in [answer, answer | random.number() << 24] {
-            all.push((answer, Some(number), None, Some(cached), Some(distributed)));
+            all.push((
+                answer,
+                [number, None, cached, distributed, Some(0), Some(0), Some(0)],
+            ));
+        }
+    }
+    for _ in tables {
+        let d = size(&mut random);
+        let t = bad_table(&mut random, d);
+        if let Some(fault) = bad(&t) {
+            let answer = Archive.check(&image(&t));
+            for answer in [answer, answer | random.number() << 40] {
+                let of_others = [1, 0, 0, 0, fault.kind, fault.port, fault.place];
+                all.push((answer, of_others.map(Some)));
+            }
         }
     }
     all
@@ -141,16 +172,10 @@ fn every_name_is_held() {
         }
     }
 
-    let parts: [(_, fn(&Parts) -> Option<u64>); 4] = [
-        ("yarvelow_number_of", |parts| parts.1),
-        ("yarvelow_length_of", |parts| parts.2),
-        ("yarvelow_cached_of", |parts| parts.3),
-        ("yarvelow_distributed_of", |parts| parts.4),
-    ];
-    for (name, part) in parts {
-        for (got, parts) in take(name).into_iter().zip(&answers) {
-            let want = part(parts).unwrap_or(got);
-            assert_eq!(got, want, "{name} of {:#x}", parts.0);
+    for (i, name) in PARTS.into_iter().enumerate() {
+        for (got, (answer, parts)) in take(name).into_iter().zip(&answers) {
+            let want = parts[i].unwrap_or(got);
+            assert_eq!(got, want, "{name} of {answer:#x}");
         }
     }
 
@@ -197,10 +222,8 @@ fn every_name_is_printed() {
 fn the_crate_has_the_same_numbers_and_places() {
     let all = printed("crate", &[0], &[]);
     for refusal in Refusal::ALL {
-        let told = refusal.to_string();
-        let (number, name) = told.split_once(' ').unwrap();
-        let name = format!("YARVELOW_{}", name.replace(' ', "_"));
-        assert_eq!(all[&name], [number.parse().unwrap()], "{name}");
+        let name = format!("YARVELOW_{}", refusal.name().replace(' ', "_"));
+        assert_eq!(all[&name], [refusal.number().into()], "{name}");
     }
     let numbers = [
         ("YARVELOW_ENTER", Event::Enter as usize),
@@ -228,4 +251,23 @@ fn the_crate_has_the_same_numbers_and_places() {
         let want: Vec<u64> = (0..=ROOM).map(|k| place(k) as u64).collect();
         assert_eq!(all[name], want, "{name}");
     }
+}
+
+#[test]
+fn the_crate_has_the_same_parts_of_what_is_bad() {
+    let answers = answers(&tables());
+    let packed: Vec<u64> = answers.iter().map(|parts| parts.0).collect();
+    let all = printed("parts", &packed, &[]);
+    let mut met = BTreeSet::new();
+    for (i, answer) in packed.into_iter().enumerate() {
+        let part = |name: &str| all[name][i];
+        if let Some(Refusal::BadTable { kind, port, place }) = Refusal::of(answer) {
+            assert_eq!(u64::from(kind.number()), part("yarvelow_kind_of"));
+            assert_eq!(u64::from(port), part("yarvelow_port_of"));
+            assert_eq!(u64::from(place), part("yarvelow_place_of"));
+            met.insert(kind.number());
+        }
+    }
+    let kinds = Kind::ALL.map(Kind::number);
+    assert!(met.into_iter().eq(kinds[1..].iter().copied()));
 }

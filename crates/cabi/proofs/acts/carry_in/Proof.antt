@@ -1,8 +1,8 @@
 use borrow.Author.Needs.{needs}
 use mathlib.Core.Path.{ap, _∙_}
 use Rattle.model.specs.declared.Port.{Port}
-use Rattle.layout.specs.Bytes.{Bytes}
-use Rattle.layout.specs.Layout.{portWidths, portValues, portPlace}
+use Rattle.model.specs.Bytes.{Bytes}
+use Rattle.model.specs.Layout.{portWidths, portValues, portPlace}
 use Rattle.records.specs.Records.{putAt}
 use Rattle.cabi.specs.Laws.Acting.{order-made}
 use Rattle.cabi.proofs.acts.carry_in.Statement.{statement}

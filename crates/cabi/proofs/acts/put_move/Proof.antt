@@ -4,7 +4,7 @@ use mathlib.Core.Bool.{cond}
 use mathlib.Core.List.{List, [], _∷_}
 use Prim.Native.Nat.{ℕ}
 use Rattle.model.specs.declared.Port.{Port}
-use Rattle.layout.specs.Layout.{portWidths, portValues, portPlace}
+use Rattle.model.specs.Layout.{portWidths, portValues, portPlace}
 use Rattle.layout.specs.Places.{valuePlace}
 use Rattle.records.specs.Records.{putAt}
 use Rattle.cabi.specs.Laws.Puts.{frontPut, movePut}

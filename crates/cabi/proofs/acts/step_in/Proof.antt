@@ -6,8 +6,8 @@ use mathlib.Core.List.{[], _∷_}
 use lib.ListN.{getD}
 use Rattle.model.specs.declared.Word.{Word}
 use Rattle.model.specs.Parts.Moves.{view, tried}
-use Rattle.layout.specs.Bytes.{Bytes, sum}
-use Rattle.layout.specs.Layout.{sharedWidths, setWidth, headWidths, sharedOf}
+use Rattle.model.specs.Bytes.{Bytes, sum}
+use Rattle.model.specs.Layout.{sharedWidths, setWidth, headWidths, sharedOf}
 use Rattle.records.specs.Records.{there}
 use Rattle.cabi.specs.Laws.Puts.{setsPut, movePut}
 use Rattle.cabi.specs.Laws.Acting.{Reading, home-small, small, step-answers, step-leaves}

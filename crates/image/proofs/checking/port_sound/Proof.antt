@@ -5,8 +5,8 @@ use native.Mathlib.Omega.{arith}
 use borrow.Author.Needs.{needs}
 use borrow.Author.Tests.{not-true, not-false}
 use Prim.Native.Nat.{_<_}
-use Rattle.model.specs.Good.{placeGood}
-use Rattle.model.specs.Parts.Rules.{ownRules, portRules}
+use Rattle.model.specs.Parts.Good.{placeGood}
+use Rattle.model.specs.Parts.Rules.{ownTests, portTests}
 use Rattle.points.specs.Places.{seen-table}
 use Rattle.image.specs.Image.{held}
 use Rattle.image.specs.Laws.Held.{port-held, copies-held}
@@ -19,7 +19,7 @@ module _ (c : tie.After-copies-in) where
   abbrev start : tie.Start
   start = c .before .before .before
 
-  whole : portRules (start .args .s) (start .args .k) (c .before .port-in .result) (c .copies-in .result)
+  whole : portTests (start .args .s) (start .args .k) (c .before .port-in .result) (c .copies-in .result)
       (madeAt (start .args .bytes .now) (c .before .port-in .result .work .seenowner)) (madeAt (start .args .bytes .now) (c .before .port-in .result .work .candidate))
       ≡ placeGood (held (start .args .d) (start .args .bytes .now)) (start .args .k)
   whole =
@@ -30,17 +30,17 @@ module _ (c : tie.After-copies-in) where
       (c .copies-in .ensures ∙ copies-held (a .bytes .now) (a .d) (start .pre .0) p (a .k) (start .pre .1))
 
 -- it has seen something, or nothing
-own : (c : tie.Else1) → ownRules (start (c .before .before) .args .s) (start (c .before .before) .args .k) (c .before .before .before .port-in .result) (c .before .before .copies-in .result) ≡ true
+own : (c : tie.Else1) → ownTests (start (c .before .before) .args .s) (start (c .before .before) .args .k) (c .before .before .before .port-in .result) (c .before .before .copies-in .result) ≡ true
 own c = sym (c .before .own-good .ensures) ∙ not-false (c .before .own-good .result) (c .if1 .left)
 
 returns : tie.Need-returns
-unfolding portRules
+unfolding portTests
 returns c =
     let o = c .before in
     rw (sym (o .own-good .ensures) ∙ not-true (o .own-good .result) (c .if1 .taken)) at (whole (o .before))
 
 returns-2 : tie.Need-returns-2
-unfolding portRules
+unfolding portTests
 returns-2 c =
     let h = c .before .before in
     let e = h .before .before in
@@ -48,7 +48,7 @@ returns-2 c =
     ∙ (rw (own e, sym (seen-table (e .before .before .before .port-in .result .point)) ∙ sym (h .has .ensures) ∙ not-true (h .has .result) (c .before .if2 .taken)) at (whole (e .before .before)))
 
 returns-3 : tie.Need-returns-3
-unfolding portRules
+unfolding portTests
 returns-3 c =
     let g = c .before .before .before in
     let h = g .before in

@@ -5,7 +5,8 @@ use Prim.Native.Nat.{_-_, _≤_}
 use native.Mathlib.Nat.{le-antisymm}
 use native.Mathlib.Omega.{arith}
 use borrow.Author.Needs.{needs}
-use Rattle.model.specs.Good.{everyBelow, sharedGood, placeGood}
+use Rattle.model.specs.Good.{everyBelow}
+use Rattle.model.specs.Parts.Good.{sharedGood, placeGood}
 use Rattle.image.specs.Image.{held}
 use Rattle.image.specs.Laws.Held.{held-fits, shared-held}
 use Rattle.image.specs.Laws.Checking.{shared-sound, turn, good-held}

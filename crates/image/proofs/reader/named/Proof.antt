@@ -1,3 +1,4 @@
+use borrow.Author.Needs.{needs}
 use borrow.Author.Tests.{ne-eqb}
 use Rattle.image.specs.Laws.Reading.{answerOf}
 use Rattle.image.proofs.reader.named.Statement.{statement}
@@ -9,11 +10,17 @@ returns c = rw (c .match .keys1)
 
 returns-2 : tie.Need-returns-2
 unfolding answerOf
-returns-2 c = rw (c .match .keys2)
+returns-2 c = rw (c .before .match .keys2, c .bad .ensures)
 
 returns-3 : tie.Need-returns-3
 unfolding answerOf
 returns-3 c = rw (ne-eqb _ _ (c .match .rest .0 .1), ne-eqb _ _ (c .match .rest .1))
 
 pub named-spec : {M : Type 1} → statement M
-named-spec = tie.close (tie.spec returns returns-2 returns-3)
+named-spec =
+    tie.close
+    (tie.spec
+    (λ c κs. search needs)
+    returns
+    returns-2
+    returns-3)

@@ -8,13 +8,13 @@ use Rattle.image.proofs.reader.read.Tie as tie
 filled-requires : tie.Need-filled-requires
 filled-requires c κs =
     let a = c .before in
-    λ h. a .accepted .ensures ∙ accepted-ports _ _ (a .before .answer .ensures) (rw (a .accepted .ensures) at h)
+    λ h. a .accepted .ensures ∙ accepted-ports _ _ (a .before .number .ensures) (rw (a .accepted .ensures) at h)
 
 returns : tie.Need-returns
 returns c =
     let b = c .before in
     let a = b .before in
-    c .filled .ensures ∙ rw (b .named .ensures, a .accepted .ensures) (read-ends _ _ (a .before .answer .ensures))
+    c .filled .ensures ∙ rw (b .named .ensures, a .accepted .ensures) (read-ends _ _ (a .before .number .ensures))
 
 pub read-spec : {M : Type 1} → statement M
 read-spec =

@@ -1,21 +1,21 @@
 -- The image of a fresh table is its head, and zeros.
 use mathlib.Core.Path.{_≡_, sym, ap, _∙_}
-use mathlib.Core.Bool.{true}
+use mathlib.Core.Bool.{true, false}
 use Prim.Native.Nat.{ℕ, _-_, _≤_}
 use native.Mathlib.Omega.{arith}
 use borrow.Author.Needs.{needs}
 use borrow.Author.Tests.{not-true, not-false}
 use lib.ListN.{length}
 use lib.Seq.{sets}
-use Rattle.model.specs.Table.{room, freshTable}
-use Rattle.model.specs.Good.{sizeGood, good}
+use Rattle.model.specs.Table.{room, freshTable, sizeGood}
+use Rattle.model.specs.Good.{good}
 use Rattle.rules.specs.Check.{size-good-fits}
-use Rattle.layout.specs.Bytes.{sum}
-use Rattle.layout.specs.Layout.{headWidths, size}
+use Rattle.model.specs.Bytes.{sum}
+use Rattle.model.specs.Layout.{headWidths, size}
 use Rattle.layout.specs.Laws.Inside.{start-inside, copied-inside}
 use Rattle.image.specs.Image.{written, roomAfter}
 use Rattle.image.specs.Laws.Writing.{answer-bad, answer-short, answer-done}
-use Rattle.image.specs.Laws.Blank.{zeros, head-long, blank-put, fresh-good}
+use Rattle.image.specs.Laws.Blank.{zeros, head-long, blank-put, fresh-good, fresh-bad}
 use Rattle.image.proofs.writer.blank.Statement.{statement}
 use Rattle.image.proofs.writer.blank.Tie as tie
 
@@ -24,8 +24,9 @@ unfolding written roomAfter
 returns c =
     let z = c .before in
     let s = z .before .before in
-    let e = answer-bad (freshTable (s .args .d)) (length (s .args .room .now)) (fresh-good (s .args .d) ∙ sym (z .size-good .ensures) ∙ not-true (z .size-good .result) (c .if1 .taken)) in
-    (rw e, rw e)
+    let q : sizeGood (s .args .d) ≡ false = sym (z .size-good .ensures) ∙ not-true (z .size-good .result) (c .if1 .taken) in
+    let e = answer-bad (freshTable (s .args .d)) (length (s .args .room .now)) (fresh-good (s .args .d) ∙ q) in
+    (rw (e, fresh-bad (s .args .d) q), rw e)
 
 -- D is in range, and its fresh table good
 module _ (c : tie.Else1) where

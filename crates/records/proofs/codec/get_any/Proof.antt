@@ -4,7 +4,7 @@ use Prim.Native.Nat.{_+_, _-_, _*_, _≤_, _<_}
 use native.Mathlib.Omega.{arith}
 use borrow.Author.Needs.{needs}
 use lib.ListN.{getD, take, drop}
-use Rattle.layout.specs.Bytes.{value}
+use Rattle.model.specs.Bytes.{value}
 use Rattle.records.specs.Laws.Rows.{get-start, get-turn, get-fits}
 use Rattle.records.proofs.codec.get_any.Statement.{statement}
 use Rattle.records.proofs.codec.get_any.Tie as tie

@@ -6,7 +6,7 @@ use native.Mathlib.Omega.{arith}
 use borrow.Author.Needs.{needs}
 use lib.ListN.{length, length-set}
 use lib.Seq.{sets}
-use Rattle.layout.specs.Bytes.{little}
+use Rattle.model.specs.Bytes.{little}
 use Rattle.records.specs.Laws.Rows.{put-turn}
 use Rattle.records.proofs.codec.put.Statement.{statement}
 use Rattle.records.proofs.codec.put.Tie as tie

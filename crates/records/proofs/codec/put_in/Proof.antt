@@ -4,7 +4,7 @@ use borrow.Author.Needs.{needs}
 use borrow.Author.Tests.{leb-true}
 use lib.Dec.{leb}
 use lib.ListN.{length}
-use Rattle.layout.specs.Bytes.{sum}
+use Rattle.model.specs.Bytes.{sum}
 use Rattle.records.specs.Records.{putAt}
 use Rattle.records.proofs.codec.put_in.Statement.{statement}
 use Rattle.records.proofs.codec.put_in.Tie as tie

@@ -1,5 +1,5 @@
 use borrow.Author.Needs.{needs}
-use Rattle.model.specs.Good.{copiesGood}
+use Rattle.model.specs.Parts.Good.{copiesGood}
 use Rattle.rules.proofs.good.copies_good.Statement.{statement}
 use Rattle.rules.proofs.good.copies_good.Tie as tie
 

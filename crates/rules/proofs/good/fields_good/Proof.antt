@@ -3,7 +3,8 @@ use mathlib.Core.Path.{_≡_, sym, _∙_}
 use mathlib.Core.Bool.{true, false, and-true, and-false}
 use borrow.Author.Tests.{not-true, not-false, le-leb, lt-leb}
 use Rattle.model.specs.Table.{most}
-use Rattle.model.specs.Good.{named, fieldsGood}
+use Rattle.model.specs.Good.{named}
+use Rattle.model.specs.Parts.Good.{fieldsGood}
 use Rattle.points.specs.Places.{named-table}
 use Rattle.rules.proofs.good.fields_good.Statement.{statement}
 use Rattle.rules.proofs.good.fields_good.Tie as tie

@@ -2,16 +2,16 @@ use borrow.Author.Needs.{needs}
 use borrow.Author.Tests.{not-true, not-false}
 use mathlib.Core.Path.{sym, _∙_}
 use Rattle.points.specs.Places.{seen-table}
-use Rattle.model.specs.Parts.Rules.{portRules}
+use Rattle.model.specs.Parts.Rules.{portTests}
 use Rattle.rules.proofs.good.port_good.Statement.{statement}
 use Rattle.rules.proofs.good.port_good.Tie as tie
 
 returns : tie.Need-returns
-unfolding portRules
+unfolding portTests
 returns c = rw (sym (c .before .own-good .ensures) ∙ not-true (c .before .own-good .result) (c .if1 .taken))
 
 returns-2 : tie.Need-returns-2
-unfolding portRules
+unfolding portTests
 returns-2 c =
     let h = c .before .before in
     let o = h .before .before in
@@ -22,7 +22,7 @@ returns-2 c =
     (c .unseen-good .ensures)
 
 returns-3 : tie.Need-returns-3
-unfolding portRules
+unfolding portTests
 returns-3 c =
     let h = c .before .before in
     let o = h .before .before in

@@ -1,12 +1,12 @@
 use borrow.Author.Needs.{needs}
 use mathlib.Core.Bool.{Bool·not-not, or-false, or-assoc}
 use Rattle.points.specs.Places.{candidate-table, candidate-spin-table}
-use Rattle.model.specs.Parts.Rules.{seenRules}
+use Rattle.model.specs.Parts.Rules.{seenTests}
 use Rattle.rules.proofs.good.seen_good.Statement.{statement}
 use Rattle.rules.proofs.good.seen_good.Tie as tie
 
 returns : tie.Need-returns
-unfolding seenRules
+unfolding seenTests
 returns c =
     let s = c .before .before .before .before .before .before .before .before .before in
     simp (

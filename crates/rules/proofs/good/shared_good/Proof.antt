@@ -1,5 +1,5 @@
 use borrow.Author.Needs.{needs}
-use Rattle.model.specs.Good.{sharedGood}
+use Rattle.model.specs.Parts.Good.{sharedGood}
 use Rattle.rules.proofs.good.shared_good.Statement.{statement}
 use Rattle.rules.proofs.good.shared_good.Tie as tie
 

@@ -1,6 +1,5 @@
 use mathlib.Core.Path.{refl}
-use Rattle.model.specs.Table.{room}
-use Rattle.model.specs.Good.{sizeGood}
+use Rattle.model.specs.Table.{room, sizeGood}
 use Rattle.rules.proofs.good.size_good.Statement.{statement}
 use Rattle.rules.proofs.good.size_good.Tie as tie
 

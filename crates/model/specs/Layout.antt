@@ -5,12 +5,11 @@ use mathlib.Core.List.{List, [], _∷_, foldr, zipWith}
 use Prim.Native.Nat.{ℕ, _+_, _*_}
 use lib.Dec.{eqb, leb}
 use lib.ListN.{length, getD}
 use Rattle.model.specs.declared.Port.{Port}
 use Rattle.model.specs.declared.Copies.{Copies}
 use Rattle.model.specs.declared.Shared.{Shared}
-use Rattle.model.specs.Table.{word, work, port, copies, shared}
-use Rattle.model.specs.Good.{sizeGood}
-use Rattle.layout.specs.Bytes.{sum, unpack}
+use Rattle.model.specs.Table.{word, work, port, copies, shared, sizeGood}
+use Rattle.model.specs.Bytes.{sum, unpack}
 
 -- shared: ACTIVE, taken, owner, spin
 unfoldable pub sharedWidths : List ℕ
