@@ -1,10 +1,10 @@
 // Fresh tables, answers, and the events that are no step.
 ghost use Rattle.std.specs.Prelude.{◌≡◌};
-ghost use Rattle.model.specs.Table.{no_work, no_totals, fresh_table};
+ghost use Rattle.model.specs.Table.{no_work, fresh_table};
 ghost use Rattle.model.specs.Event as Event;
 ghost use Rattle.model.specs.Paid as Paid;
 
-use model::{Answer, Copies, Made, Port, ROOM, Shared, Table, Totals, Word, Work};
+use model::{Answer, Copies, Made, Port, ROOM, Shared, Table, Word, Work};
 use rules::good;
 
 const ENTER: u64 = 1;
@@ -38,7 +38,6 @@ pub fn number(answer: Answer) -> u64
         Answer::BadSize => 9,
         Answer::ShortRoom => 10,
         Answer::BadImage => 11,
-        Answer::FullCount => 12,
     }
 }
 
@@ -55,25 +54,13 @@ fn no_work() -> Work
     }
 }
 
-// Both totals 0.
-fn no_totals() -> Totals
-    ensures { result ≡ no_totals }
-{
-    Totals {
-        cached: 0,
-        distributed: 0,
-    }
-}
-
 // The fresh table of d ports.
 fn blank(d: u64) -> Table
     ensures { result ≡ fresh_table d }
 {
     let work = no_work();
-    let totals = no_totals();
     let port = Port {
         work,
-        totals,
         made: 0,
         go: 0,
         point: 0,
@@ -124,9 +111,9 @@ pub fn fresh(d: u64) -> Made
     }
 }
 
-// What an event answers at a port that there is, where a step takes no total above the highest: the lowest refusal that applies.
+// What an event answers at a port that there is: the lowest refusal that applies.
 pub fn refusal(event: u64, p: Port) -> Answer
-    ensures { result ≡ Event.first_of (Event.refusals event p no_totals) }
+    ensures { result ≡ Event.first_of (Event.refusals event p) }
 {
     let point = p.point;
     match event {
@@ -174,9 +161,9 @@ fn placed(d: u64, p: Port) -> bool
     ((p.work.seenowner as u64) < d) & ((p.work.candidate as u64) < d) & (p.made <= good::MOST)
 }
 
-// The number that an order answers before anything is changed, from what all share and its port, where a step takes no total above the highest.
+// The number that an order answers before anything is changed, from what all share and its port.
 pub fn first(s: Shared, k: u64, event: u64, p: Port) -> u64
-    ensures { result ≡ Event.number_of (Paid.paid_answer s k event p no_totals) }
+    ensures { result ≡ Event.number_of (Paid.paid_answer s k event p) }
 {
     let d = s.d;
     if !(good::size_good(d) & masks::within(d, s.active)) {
@@ -198,17 +185,13 @@ pub fn ordered(event: u64, p: Port) -> Port
 {
     let mut q = p;
     if event == ENTER {
-        let totals = no_totals();
         q.point = 1;
-        q.totals = totals;
         return q;
     }
     if event == CRASH {
         let work = no_work();
-        let totals = no_totals();
         q.point = 1;
         q.work = work;
-        q.totals = totals;
         return q;
     }
     if event == CALL_OFF {

@@ -1,15 +1,13 @@
 // The engine for programs in C and Rust: events on images in lent buffers, with document 01's numbers. No call holds a table.
 mod acts;
 
-ghost use Rattle.std.specs.Prelude.{◌≡◌, ◌+◌, ◌*◌, min, ltb, length};
-ghost use Rattle.std.proofs.lemmas.List.Edits.{sets};
+ghost use Rattle.std.specs.Prelude.{◌≡◌, ◌+◌, ◌*◌, min, length};
 ghost use Rattle.model.specs.Event.{number_of};
 ghost use Rattle.model.specs.Run.{orders_for};
-ghost use Rattle.model.specs.Layout.{present, size};
-ghost use Rattle.image.specs.Image.{encode, decode};
+ghost use Rattle.image.specs.Image.{decode};
 ghost use Rattle.cabi.specs.Calls as Calls;
 
-use image::{checking, renewal, writer};
+use image::{checking, writer};
 use rules::good;
 
 const BAD_TABLE: u64 = 1;
@@ -56,31 +54,8 @@ pub extern "C" fn yarvelow_check(image: &[u8]) -> u64
     0
 }
 
-// The image of an accepted one in the present version: number + 256 * length. Refused, by the reader and then for want of room (10): the room is untouched,
-// length 0.
-#[unsafe(no_mangle)]
-pub extern "C" fn yarvelow_renew(image: &[u8], room: &mut [u8]) -> u64
-    ensures value { result ≡ Calls.renewCall image.now (length room.old) }
-    ensures room_after { room.new ≡ Calls.renewRoom image.now room.old }
-{
-    let bad = checking::number(image);
-    if bad != 0 {
-        return refused(image, bad);
-    }
-    let w = renewal::renew(image, room);
-    let a = w.answer;
-    answers::number(a) + 256 * (w.length as u64)
-}
-
-// An accepted image is of an older version: the present one would not fit where it stands.
-fn older(image: &[u8], d: u8) -> bool
-    ensures { result ≡ ltb (length image.now) (size (present d) d) }
-{
-    image.len() < layout::size(layout::present(d as u64), d)
-}
-
-// An event on an image, changed where it stands: number + 256 * cached + 65536 * distributed. Refused, by the reader, then by the event, then for an image of
-// an older version, for want of room (10): every byte is as it was.
+// An event on an image, changed where it stands: number + 256 * cached + 65536 * distributed. Refused, by the reader and then by the event: every byte is as
+// it was.
 #[unsafe(no_mangle)]
 pub extern "C" fn yarvelow_event(image: &mut [u8], port: u64, event: u64) -> u64
     ensures value { result ≡ Calls.event_call image.old port event }
@@ -91,18 +66,11 @@ pub extern "C" fn yarvelow_event(image: &mut [u8], port: u64, event: u64) -> u64
         return refused(image, bad);
     }
     let d = records::d_in(image);
-    let refused = acts::refusal_in(image, records::version_in(image), d, port, event);
-    if refused != 0 {
-        return refused;
-    }
-    if older(image, d) {
-        return SHORT_ROOM;
-    }
-    acts::carry_in(image, d, port as u8, event)
+    acts::act_in(image, d, port, event)
 }
 
-// The same from one buffer into another: `image` is only read, and done, `next` begins with the image after the event, of the present version. Refused, by the
-// reader, then by the event, then for want of room (10): every byte of `next` is as it was.
+// The same from one buffer into another: `image` is only read, and done, `next` begins with the image after the event. Refused, by the reader, then by the
+// event, then for want of room (10): every byte of `next` is as it was.
 #[unsafe(no_mangle)]
 pub extern "C" fn yarvelow_event_into(image: &[u8], next: &mut [u8], port: u64, event: u64) -> u64
     ensures value { result ≡ Calls.into_call image.now (length next.old) port event }
@@ -113,28 +81,16 @@ pub extern "C" fn yarvelow_event_into(image: &[u8], next: &mut [u8], port: u64, 
         return refused(image, bad);
     }
     let d = records::d_in(image);
-    let refused = acts::refusal_in(image, records::version_in(image), d, port, event);
+    let refused = acts::refusal_in(image, d, port, event);
     if refused != 0 {
         return refused;
     }
-    let n = layout::size(layout::present(d as u64), d);
+    let n = image.len();
     if next.len() < n {
         return SHORT_ROOM;
     }
-    take_over(image, next, d);
-    acts::carry_in(&mut next[..n], d, port as u8, event)
-}
-
-// The image of d ports in the present version at the start of a room that is long enough: copied where it is of that version already.
-fn take_over(image: &[u8], next: &mut [u8], d: u8)
-    requires { (number_of (decode image.now).answer ≡ 0) × (d ≡ (decode image.now).table.shared.d) × (size (present d) d ≤ length next.old) }
-    ensures { next.new ≡ sets next.old 0 (encode (decode image.now).table) }
-{
-    if older(image, d) {
-        let w = renewal::renew(image, next);
-        return;
-    }
     bytes::copy(image, next);
+    acts::carry_in(&mut next[..n], d, port as u8, event)
 }
 
 fn least(a: usize, b: usize) -> usize
@@ -144,11 +100,10 @@ fn least(a: usize, b: usize) -> usize
 }
 
 // As many events on an image as there are pairs of port and event and places for their answers, with one check of its table: answers[i] is what
-// yarvelow_event would answer. Gives the reader's answer, and for an image of an older version SHORT ROOM (10); refused, every byte of the image and every
-// answer is as it was.
+// yarvelow_event would answer. Gives the reader's answer; refused, every byte of the image and every answer is as it was.
 #[unsafe(no_mangle)]
 pub extern "C" fn yarvelow_run(image: &mut [u8], orders: &[u64], answers: &mut [u64]) -> u64
-    ensures value { result ≡ Calls.runCall image.old }
+    ensures value { result ≡ Calls.check_call image.old }
     ensures image_after { image.new ≡ Calls.calls_image image.old (orders_for orders.now answers.old) }
     ensures answers_after { answers.new ≡ Calls.run_places image.old (orders_for orders.now answers.old) answers.old }
 {
@@ -157,9 +112,6 @@ pub extern "C" fn yarvelow_run(image: &mut [u8], orders: &[u64], answers: &mut [
         return refused(image, bad);
     }
     let d = records::d_in(image);
-    if older(image, d) {
-        return SHORT_ROOM;
-    }
     let n = least(orders.len() / 2, answers.len());
     let mut i: usize = 0;
     while i < n {

@@ -1,5 +1,5 @@
 -- Two results that meet the promise of a function of this crate are equal: each promise gives one value at every argument.
-use Rattle.std.specs.Prelude.{◌≡◌, ℕ, ◌%◌, Bool}
+use Rattle.std.specs.Prelude.{◌≡◌, Bool, ℕ, ◌%◌}
 use Rattle.model.specs.declared.Work.{Work}
 use Rattle.model.specs.declared.Port.{Port}
 use Rattle.model.specs.declared.Copies.{Copies}

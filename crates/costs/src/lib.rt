@@ -1,11 +1,11 @@
 // What a touch costs in both models, and the copy sets after it. Port k's bit in a copy set is bit k round the 64 bits of a mask.
-ghost use Rattle.std.specs.Prelude.{◌≡◌, ◌+◌, ◌%◌, if◌then◌else◌, nat_lt};
+ghost use Rattle.std.specs.Prelude.{◌≡◌, cond, ◌%◌};
 ghost use Rattle.model.specs.Mask.{stands};
 ghost use Rattle.model.specs.Table as Table;
 ghost use Rattle.model.specs.Cost as Cost;
 ghost use Rattle.model.specs.Parts.Charges as Charges;
 
-use model::{Cell, Charge, Copies, Fee, Kind, Port, Shared, Totals, Touch, Work};
+use model::{Cell, Charge, Copies, Fee, Kind, Port, Shared, Touch, Work};
 
 // The port that a word belongs to, as port k touches it; ACTIVE and the lock word count with k.
 pub fn home(cell: Cell, k: u64, w: Work) -> u64
@@ -86,7 +86,7 @@ fn holders(cell: Cell, s: Shared, c: Copies) -> u64
 
 // 0 for a read by a port that has a copy, else 1.
 fn missed(m: u64, k: u64) -> u64
-    ensures { result ≡ (if stands m (k % 64) then 0 else 1) }
+    ensures { result ≡ cond (stands m (k % 64)) 0 1 }
 {
     if masks::stands(m, k % 64) { 0 } else { 1 }
 }
@@ -201,48 +201,5 @@ pub fn charge(u: Touch, k: u64, w: Work, q: Port, s: Shared, c: Copies) -> Charg
         copies: put_copies(cell, f.set, c),
         cached: f.cached,
         distributed: f.distributed,
-    }
-}
-
-// The highest total of a passage's costs.
-pub const FULLEST: u64 = 65000;
-
-// A total of n would be above the highest with c more.
-fn over(n: u16, c: u64) -> bool
-    ensures { result ≡ nat_lt Table.fullest (n + c) }
-{
-    if FULLEST < c {
-        return true;
-    }
-    FULLEST - c < n as u64
-}
-
-// A step that costs so much would take a total above the highest.
-pub fn full(s: Totals, cached: u64, distributed: u64) -> bool
-    ensures { result ≡ Charges.full s cached distributed }
-{
-    over(s.cached, cached) | over(s.distributed, distributed)
-}
-
-// One more reference might.
-pub fn nearly(s: Totals) -> bool
-    ensures { result ≡ Charges.full s 1 1 }
-{
-    full(s, 1, 1)
-}
-
-fn sum(n: u16, c: u64) -> u16
-    ensures { result ≡ (n + c) % 65536 }
-{
-    (std::num::wrapping_add_u64(n as u64, c) % 65536) as u16
-}
-
-// The totals with these costs added, of each what is left in its width.
-pub fn raised(s: Totals, cached: u64, distributed: u64) -> Totals
-    ensures { result ≡ Charges.raised s cached distributed }
-{
-    Totals {
-        cached: sum(s.cached, cached),
-        distributed: sum(s.distributed, distributed),
     }
 }

@@ -1,7 +1,6 @@
 // Images of tables: document 01, section 'The image'.
 pub mod checking;
 pub mod reader;
-pub mod renewal;
 pub mod writer;
 
 use model::Answer;

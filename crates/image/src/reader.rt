@@ -1,13 +1,12 @@
 // The reader of images.
 ghost use Rattle.std.specs.Prelude.{◌≡◌, ◌<◌};
 ghost use Rattle.model.specs.Table.{no_port, no_copies};
-ghost use Rattle.model.specs.Layout.{version_in};
 ghost use Rattle.records.specs.Records.{ports_in};
 ghost use Rattle.image.specs.Image as Image;
 ghost use Rattle.image.specs.Laws.Reading.{accepted_in, answer_of, table_in, made_in};
 
 use crate::checking;
-use model::{Answer, Copies, Made, Port, ROOM, Shared, Table, Totals, Word, Work};
+use model::{Answer, Copies, Made, Port, ROOM, Shared, Table, Word, Work};
 
 // A port that is all 0, and no copies of a port's words.
 fn no_port() -> Port
@@ -20,13 +19,8 @@ fn no_port() -> Port
         seenowner: 0,
         candidate: 0,
     };
-    let totals = Totals {
-        cached: 0,
-        distributed: 0,
-    };
     Port {
         work,
-        totals,
         made: 0,
         go: 0,
         point: 0,
@@ -47,9 +41,9 @@ fn no_copies() -> Copies
 }
 
 // What all ports share in the image of d ports; at d = 0, that of the fresh table of D = 1.
-fn shared_or_fresh(bytes: &[u8], v: u8, d: u8) -> Shared
-    requires { (v ≡ version_in bytes.now) × (0 < d → d ≡ ports_in bytes.now) }
-    ensures { result ≡ (table_in v d bytes.now).shared }
+fn shared_or_fresh(bytes: &[u8], d: u8) -> Shared
+    requires { 0 < d → d ≡ ports_in bytes.now }
+    ensures { result ≡ (table_in d bytes.now).shared }
 {
     if d == 0 {
         let word = Word {
@@ -65,18 +59,18 @@ fn shared_or_fresh(bytes: &[u8], v: u8, d: u8) -> Shared
             word,
         };
     }
-    records::shared_in(bytes, v, d)
+    records::shared_in(bytes, d)
 }
 
 // The table of the image of d ports; at d = 0, the fresh table of D = 1.
-fn filled(bytes: &[u8], v: u8, d: u8, answer: Answer) -> Made
-    requires { (v ≡ version_in bytes.now) × (0 < d → d ≡ ports_in bytes.now) }
-    ensures { result ≡ made_in answer v d bytes.now }
+fn filled(bytes: &[u8], d: u8, answer: Answer) -> Made
+    requires { 0 < d → d ≡ ports_in bytes.now }
+    ensures { result ≡ made_in answer d bytes.now }
 {
     let n = d as usize;
     let port = no_port();
     let none = no_copies();
-    let shared = shared_or_fresh(bytes, v, d);
+    let shared = shared_or_fresh(bytes, d);
     let ports = [port; ROOM];
     let copies = [none; ROOM];
     let mut table = Table {
@@ -87,8 +81,8 @@ fn filled(bytes: &[u8], v: u8, d: u8, answer: Answer) -> Made
     let mut i: usize = 0;
     while i < n {
         let k = i as u8;
-        let p = records::port_in(bytes, v, d, k);
-        let c = records::copies_in(bytes, v, d, k);
+        let p = records::port_in(bytes, k);
+        let c = records::copies_in(bytes, d, k);
         table.ports[i] = p;
         table.copies[i] = c;
         i += 1;
@@ -121,10 +115,5 @@ pub fn read(bytes: &[u8]) -> Made
     ensures { result ≡ Image.decode bytes.now }
 {
     let number = checking::number(bytes);
-    filled(
-        bytes,
-        records::version_in(bytes),
-        accepted(bytes, number),
-        named(bytes, number),
-    )
+    filled(bytes, accepted(bytes, number), named(bytes, number))
 }

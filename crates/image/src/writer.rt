@@ -16,7 +16,6 @@ pub fn write(table: Table, room: &mut [u8]) -> Written
     ensures room_after { room.new ≡ Image.room_after (Image.write_answer table (length room.old)) table room.old }
 {
     let s = table.shared;
-    let v = layout::present(s.d);
     let n = good::ports(s.d);
     let mut rest: u64 = 0;
     let mut e = n;
@@ -25,7 +24,7 @@ pub fn write(table: Table, room: &mut [u8]) -> Written
         e += 1;
     }
     let o = good::slot(s.word.owner as u64);
-    let mut bad = faults::shared_fault(v, rest == 0, s, table.ports[o].made);
+    let mut bad = faults::shared_fault(rest == 0, s, table.ports[o].made);
     let mut i: usize = 0;
     while i < n {
         let p = table.ports[i];
@@ -35,7 +34,7 @@ pub fn write(table: Table, room: &mut [u8]) -> Written
         let x = table.ports[a].made;
         let y = table.ports[b].made;
         if !good::port_good(s, i as u64, p, c, x, y) {
-            bad = faults::port_fault(bad, v, s, i as u8, p, c, x, y);
+            bad = faults::port_fault(bad, s, i as u8, p, c, x, y);
         }
         i += 1;
     }
@@ -46,7 +45,7 @@ pub fn write(table: Table, room: &mut [u8]) -> Written
         };
     }
     let d = n as u8;
-    let size = layout::size(v, d);
+    let size = layout::size(d);
     if room.len() < size {
         return Written {
             length: 0,
@@ -54,10 +53,10 @@ pub fn write(table: Table, room: &mut [u8]) -> Written
         };
     }
     records::put_head(room, d);
-    records::put_shared(room, d, s);
+    records::put_shared(room, s);
     let mut k: usize = 0;
     while k < n {
-        records::put_port(room, d, k as u8, table.ports[k]);
+        records::put_port(room, k as u8, table.ports[k]);
         k += 1;
     }
     records::put_copied(room, d, s);
@@ -65,11 +64,6 @@ pub fn write(table: Table, room: &mut [u8]) -> Written
     while j < n {
         records::put_copies(room, d, j as u8, table.copies[j]);
         j += 1;
-    }
-    let mut l: usize = 0;
-    while l < n {
-        records::put_totals(room, d, l as u8, table.ports[l]);
-        l += 1;
     }
     Written {
         length: size,
@@ -106,7 +100,7 @@ pub fn blank(d: u64, room: &mut [u8]) -> Written
         };
     }
     let m = d as u8;
-    let long = layout::size(layout::present(d), m);
+    let long = layout::size(m);
     if room.len() < long {
         return Written {
             length: 0,

@@ -1,23 +1,17 @@
-// The layout of an image: the widths of each record's fields, its values in their order, the head, and where each record stands, by the version. Here alone
-// stand numbers of the layout. Version, D and a port's number are bytes, as in the image, so that no size or place is out of reach.
-ghost use Rattle.std.specs.Prelude.{◌≡◌, cond, ◌∷◌, [], ◌+◌, ◌*◌, ◌≤◌, ltb};
-ghost use Rattle.model.specs.Points.{one_of};
+// The layout of an image: the widths of each record's fields, its values in their order, the head, and where each record stands. Here alone stand numbers of
+// the layout. D and a port's number are bytes, as in the image, so that no size or place is out of reach.
+ghost use Rattle.std.specs.Prelude.{◌≡◌, ◌+◌, ◌*◌, ◌≤◌};
 ghost use Rattle.model.specs.Bytes.{sum, pack, unpack};
 ghost use Rattle.model.specs.Layout as Layout;
 ghost use Rattle.layout.specs.Places as Places;
 
-use model::{Cell, Copies, Port, Shared, Totals, Word, Work};
+use model::{Cell, Copies, Port, Shared, Word, Work};
 
-pub const HEAD: [usize; 10] = [1, 1, 2, 2, 2, 2, 2, 2, 2, 2];
-
-// The head of a version without totals.
-pub const OLD_HEAD: [usize; 8] = [1, 1, 2, 2, 2, 2, 2, 2];
+pub const HEAD: [usize; 8] = [1, 1, 2, 2, 2, 2, 2, 2];
 
 pub const SHARED: [usize; 4] = [8, 1, 1, 2];
 
 pub const PORT: [usize; 11] = [1, 1, 1, 1, 2, 2, 2, 1, 2, 1, 2];
-
-pub const TOTALS: [usize; 2] = [2, 2];
 
 pub const COPIED: [usize; 2] = [2, 2];
 
@@ -43,19 +37,12 @@ pub const WORD_AT: usize = 8;
 // The most ports whose copy sets take two bytes.
 pub const NARROW: u8 = 16;
 
-// The first version whose images have totals.
-pub const COUNTED: u8 = 3;
-
 // The bytes of each record.
-pub const HEAD_SIZE: usize = 18;
-
-pub const OLD_HEAD_SIZE: usize = 14;
+pub const HEAD_SIZE: usize = 14;
 
 pub const SHARED_SIZE: usize = 12;
 
 pub const PORT_SIZE: usize = 16;
-
-pub const TOTALS_SIZE: usize = 4;
 
 pub const COPIED_SIZE: usize = 4;
 
@@ -119,15 +106,9 @@ pub fn copies_values(c: Copies) -> [u64; 3]
     [c.status, c.go, c.spin]
 }
 
-pub fn totals_values(p: Port) -> [u64; 2]
-    ensures { result ≡ Layout.totals_values p }
-{
-    [wide16(p.totals.cached), wide16(p.totals.distributed)]
-}
-
 // A record from its values, of each what is left in its width.
 pub fn shared_of(d: u64, v: [u64; 4], c: [u64; 2]) -> Shared
-    ensures { result ≡ Layout.shared_of d (unpack (Layout.shared_widths 0) (pack (Layout.shared_widths 0) v)) c }
+    ensures { result ≡ Layout.shared_of d (unpack Layout.shared_widths (pack Layout.shared_widths v)) c }
 {
     let word = Word {
         spin: (v[3] % 65536) as u16,
@@ -144,7 +125,7 @@ pub fn shared_of(d: u64, v: [u64; 4], c: [u64; 2]) -> Shared
 }
 
 fn work_of(v: [u64; 11]) -> Work
-    ensures { result ≡ (Layout.port_of (unpack (Layout.port_widths 0) (pack (Layout.port_widths 0) v)) []).work }
+    ensures { result ≡ (Layout.port_of (unpack Layout.port_widths (pack Layout.port_widths v))).work }
 {
     Work {
         own: (v[6] % 65536) as u16,
@@ -155,23 +136,12 @@ fn work_of(v: [u64; 11]) -> Work
     }
 }
 
-fn totals_of(t: [u64; 2]) -> Totals
-    ensures { result ≡ (Layout.port_of [] (unpack (2 ∷ 2 ∷ []) (pack (2 ∷ 2 ∷ []) t))).totals }
-{
-    Totals {
-        cached: (t[0] % 65536) as u16,
-        distributed: (t[1] % 65536) as u16,
-    }
-}
-
-pub fn port_of(v: [u64; 11], t: [u64; 2]) -> Port
-    ensures { result ≡ Layout.port_of (unpack (Layout.port_widths 0) (pack (Layout.port_widths 0) v)) (unpack (2 ∷ 2 ∷ []) (pack (2 ∷ 2 ∷ []) t)) }
+pub fn port_of(v: [u64; 11]) -> Port
+    ensures { result ≡ Layout.port_of (unpack Layout.port_widths (pack Layout.port_widths v)) }
 {
     let work = work_of(v);
-    let totals = totals_of(t);
     Port {
         work,
-        totals,
         made: (v[4] % 65536) as u16,
         go: (v[5] % 65536) as u16,
         point: (v[0] % 256) as u8,
@@ -202,106 +172,60 @@ fn copies_long(d: u8) -> u64
     COPIED_WIDE_SIZE as u64 + n * COPIES_WIDE_SIZE as u64
 }
 
-// The version that is written for d ports; whether version v is read as an image of d ports.
-pub fn present(d: u64) -> u8
-    ensures { result ≡ Layout.present d }
+fn version(d: u8) -> u64
+    ensures { result ≡ Layout.version d }
 {
-    if d <= NARROW as u64 { 3 } else { 4 }
+    if d <= NARROW { 1 } else { 2 }
 }
 
-pub fn is_version(v: u8, d: u8) -> bool
-    ensures { result ≡ one_of v (Layout.versions d) }
-{
-    if d <= NARROW {
-        return (v == 1) | (v == 3);
-    }
-    (v == 2) | (v == 4)
-}
-
-// The bytes of the head, and of a port's totals.
-pub fn head_size(v: u8) -> usize
-    ensures value { result ≡ sum (Layout.head_widths v) }
-    ensures upper_bound { result ≤ 18 }
-{
-    if v < COUNTED {
-        OLD_HEAD_SIZE
-    } else {
-        HEAD_SIZE
-    }
-}
-
-fn totals_size(v: u8) -> usize
-    ensures value { result ≡ sum (Layout.totals_widths v) }
-    ensures upper_bound { result ≤ 4 }
-{
-    if v < COUNTED { 0 } else { TOTALS_SIZE }
-}
-
-// A number of the contents that a version without totals has not.
-fn counted(v: u8, x: u64) -> u64
-    ensures { result ≡ cond (ltb v 3) 0 x }
-{
-    if v < COUNTED { 0 } else { x }
-}
-
-// The head of the image of d ports: version, D, start and length of each body; 0 for a body that the version has not.
-pub fn head_values(v: u8, d: u8) -> [u64; 10]
-    ensures { result ≡ Places.filled 10 (Layout.head_values v d) }
+// The head of the image of d ports: version, D, start and length of each body.
+pub fn head_values(d: u8) -> [u64; 8]
+    ensures { result ≡ Layout.head_values d }
 {
     let n = d as u64;
-    let shared = head_size(v) as u64;
+    let shared = HEAD_SIZE as u64;
     let ports = shared + SHARED_SIZE as u64;
     let copies = ports + n * PORT_SIZE as u64;
-    let long = copies_long(d);
     [
-        v as u64,
+        version(d),
         n,
         shared,
         SHARED_SIZE as u64,
         ports,
         n * PORT_SIZE as u64,
         copies,
-        long,
-        counted(v, copies + long),
-        counted(v, n * TOTALS_SIZE as u64),
+        copies_long(d),
     ]
 }
 
-// Where port k stands; where the copy sets and the totals of port k stand in the image of d ports.
-pub fn port_place(v: u8, k: u8) -> usize
-    ensures { result ≡ Layout.port_place v k }
+// Where port k stands; where the copy sets of port k stand in the image of d ports.
+pub fn port_place(k: u8) -> usize
+    ensures { result ≡ Layout.port_place k }
 {
     let i = k as usize;
-    head_size(v) + SHARED_SIZE + i * PORT_SIZE
+    HEAD_SIZE + SHARED_SIZE + i * PORT_SIZE
 }
 
-pub fn copies_place(v: u8, d: u8, k: u8) -> usize
-    ensures { result ≡ Layout.copies_place v d k }
+pub fn copies_place(d: u8, k: u8) -> usize
+    ensures { result ≡ Layout.copies_place d k }
 {
     let n = d as usize;
     let i = k as usize;
     if d <= NARROW {
-        return head_size(v) + SHARED_SIZE + n * PORT_SIZE + COPIED_SIZE + i * COPIES_SIZE;
+        return HEAD_SIZE + SHARED_SIZE + n * PORT_SIZE + COPIED_SIZE + i * COPIES_SIZE;
     }
-    head_size(v) + SHARED_SIZE + n * PORT_SIZE + COPIED_WIDE_SIZE + i * COPIES_WIDE_SIZE
-}
-
-pub fn totals_place(v: u8, d: u8, k: u8) -> usize
-    ensures { result ≡ Layout.totals_place v d k }
-{
-    let i = k as usize;
-    copies_place(v, d, d) + i * totals_size(v)
+    HEAD_SIZE + SHARED_SIZE + n * PORT_SIZE + COPIED_WIDE_SIZE + i * COPIES_WIDE_SIZE
 }
 
 // Where the copy set of a word stands in the image of d ports, j being the port that the word belongs to; where there is no word, past the image.
-pub fn set_place(cell: Cell, v: u8, d: u8, j: u8) -> usize
-    ensures { result ≡ Places.set_place cell v d j }
+pub fn set_place(cell: Cell, d: u8, j: u8) -> usize
+    ensures { result ≡ Places.set_place cell d j }
 {
-    let at = copies_place(v, d, j);
-    let all = port_place(v, d);
+    let at = copies_place(d, j);
+    let all = port_place(d);
     let w = set_width(d);
     match cell {
-        Cell::Nothing => size(v, d),
+        Cell::Nothing => size(d),
         Cell::Status => at,
         Cell::Go => at + w,
         Cell::Spin => at + 2 * w,
@@ -321,8 +245,8 @@ pub fn set_width(d: u8) -> usize
 }
 
 // The length of the image of d ports.
-pub fn size(v: u8, d: u8) -> usize
-    ensures { result ≡ Layout.size v d }
+pub fn size(d: u8) -> usize
+    ensures { result ≡ Layout.size d }
 {
-    totals_place(v, d, d)
+    copies_place(d, d)
 }

@@ -31,8 +31,7 @@ fn named(number: u64, bad: Fault) -> Answer
         8 => Answer::Inside,
         9 => Answer::BadSize,
         10 => Answer::ShortRoom,
-        11 => Answer::BadImage,
-        _ => Answer::FullCount,
+        _ => Answer::BadImage,
     }
 }
 
@@ -41,7 +40,6 @@ pub fn event(mut table: Table, port: u64, event: u64) -> Outcome
     ensures { result ≡ Event.event table port event }
 {
     let s = table.shared;
-    let v = layout::present(s.d);
     let n = good::ports(s.d);
     let mut rest: u64 = 0;
     let mut e = n;
@@ -50,7 +48,7 @@ pub fn event(mut table: Table, port: u64, event: u64) -> Outcome
         e += 1;
     }
     let o = good::slot(s.word.owner as u64);
-    let mut bad = faults::shared_fault(v, rest == 0, s, table.ports[o].made);
+    let mut bad = faults::shared_fault(rest == 0, s, table.ports[o].made);
     let mut i: usize = 0;
     while i < n {
         let p = table.ports[i];
@@ -60,7 +58,7 @@ pub fn event(mut table: Table, port: u64, event: u64) -> Outcome
         let x = table.ports[a].made;
         let y = table.ports[b].made;
         if !good::port_good(s, i as u64, p, c, x, y) {
-            bad = faults::port_fault(bad, v, s, i as u8, p, c, x, y);
+            bad = faults::port_fault(bad, s, i as u8, p, c, x, y);
         }
         i += 1;
     }

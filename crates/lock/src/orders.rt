@@ -1,7 +1,6 @@
 // One order on what it can see, without a table: the shared part, its own port, and the port that it touches.
 ghost use Rattle.std.specs.Prelude.{◌≡◌, cond, ◌+◌, ◌*◌, ◌<◌};
 ghost use Rattle.model.specs.Event.{number_of};
-ghost use Rattle.model.specs.Table.{no_totals};
 ghost use Rattle.model.specs.Paid.{paid_answer};
 ghost use Rattle.lock.specs.Parts.{kept, acted_on};
 
@@ -10,8 +9,6 @@ use answers::STEP;
 use model::{Copies, Port, Shared, Touch};
 
 const BAD_TABLE: u64 = 1;
-
-const FULL_COUNT: u64 = 12;
 
 // What an order leaves: its port's record, the copy sets of the port that it touched, what all share, whether that port's latest spin is set to 1, and the
 // order's answer with both costs in one number.
@@ -32,8 +29,7 @@ fn code(cached: u64, distributed: u64) -> u64
     256 * cached + 65536 * distributed
 }
 
-// What an event at port k leaves that nothing refuses but, of a step, FULL COUNT; u is what its step would touch, q the port that it would touch, and c that
-// port's copy sets.
+// What an event at port k leaves that nothing refuses; u is what its step would touch, q the port that it would touch, and c that port's copy sets.
 pub(crate) fn carried(
     u: Touch,
     s: Shared,
@@ -43,7 +39,7 @@ pub(crate) fn carried(
     q: Port,
     c: Copies,
 ) -> Acted
-    requires { number_of (paid_answer s k event own no_totals) ≡ 0 }
+    requires { number_of (paid_answer s k event own) ≡ 0 }
     ensures { result ≡ acted_on u s k event own q c }
 {
     if event != STEP {
@@ -57,18 +53,7 @@ pub(crate) fn carried(
         };
     }
     let l = acts::stepped(u, s, k, own, q, c);
-    if costs::full(own.totals, l.cached, l.distributed) {
-        return Acted {
-            own,
-            copies: c,
-            shared: s,
-            sets: false,
-            code: FULL_COUNT,
-        };
-    }
-    let mut p = l.own;
-    let sums = costs::raised(own.totals, l.cached, l.distributed);
-    p.totals = sums;
+    let p = l.own;
     let x = l.copies;
     let y = l.shared;
     Acted {

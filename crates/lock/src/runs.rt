@@ -35,7 +35,6 @@ pub fn run(mut table: Table, orders: &[u64], answers: &mut [u64]) -> Made
     ensures answers_after { answers.new ≡ Run.run_answers table (Run.orders_for orders.now answers.old) answers.old }
 {
     let s = table.shared;
-    let v = layout::present(s.d);
     let n = good::ports(s.d);
     let mut rest: u64 = 0;
     let mut e = n;
@@ -44,7 +43,7 @@ pub fn run(mut table: Table, orders: &[u64], answers: &mut [u64]) -> Made
         e += 1;
     }
     let o = good::slot(s.word.owner as u64);
-    let mut bad = faults::shared_fault(v, rest == 0, s, table.ports[o].made);
+    let mut bad = faults::shared_fault(rest == 0, s, table.ports[o].made);
     let mut i: usize = 0;
     while i < n {
         let p = table.ports[i];
@@ -54,7 +53,7 @@ pub fn run(mut table: Table, orders: &[u64], answers: &mut [u64]) -> Made
         let x = table.ports[a].made;
         let y = table.ports[b].made;
         if !good::port_good(s, i as u64, p, c, x, y) {
-            bad = faults::port_fault(bad, v, s, i as u8, p, c, x, y);
+            bad = faults::port_fault(bad, s, i as u8, p, c, x, y);
         }
         i += 1;
     }

@@ -37,5 +37,4 @@ pub mod Turn
 pub mod Waiting
 pub mod Budget
 pub mod Fees
-pub mod Totals
 pub mod Passage

@@ -68,4 +68,3 @@ settled p =
     (work (cond (own_place p.point) p.work.own 0)
     (cond (seen_place p.point) p.work.seenowner 0) (cond (seen_place p.point) p.work.seenspin 0)
     (cond (candidate_place p.point) p.work.candidate 0) (cond (candidate_spin_place p.point) p.work.candidatespin 0))
-    p.totals

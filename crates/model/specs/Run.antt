@@ -10,7 +10,7 @@ use Rattle.model.specs.Mask.{stands}
 use Rattle.model.specs.Points.{one_of}
 use Rattle.model.specs.Good.{good, bad_in}
 use Rattle.model.specs.Step.{same}
-use Rattle.model.specs.Event.{number_of, answer_code, enter, stepping, crash, event}
+use Rattle.model.specs.Event.{number_of, answer_code, stepping, crash, event}
 
 pub record Order : Type 0 where
   pub port : ℕ
@@ -83,11 +83,12 @@ passed_over k t (o ∷ os) =
     cond (grants t o && eqb (port_at t o.port).work.candidate k) 0
     (cond (stands (after t o).shared.active k) (cond (grants t o) 1 0 + passed_over k (after t o) os) 0)
 
--- what the orders of port k have cost in one model since its last E or X that was carried out, where that was n before the first of them
-unfoldable pub cost_since : (Outcome → ℕ) → ℕ → ℕ → Table → List Order → ℕ
-cost_since cost k n t [] = n
-cost_since cost k n t (o ∷ os) =
-    cost_since cost k (cond (done k enter t o || done k crash t o) 0 (n + cond (eqb o.port k) (cost (answered t o)) 0)) (after t o) os
+-- what port k's own steps cost in one model, up to its step at 19 or its next crash
+unfoldable pub passage_cost : (Outcome → ℕ) → ℕ → Table → List Order → ℕ
+passage_cost cost k t [] = 0
+passage_cost cost k t (o ∷ os) =
+    cond (done k stepping t o) (cost (answered t o)) 0
+    + cond (done k crash t o || (done k stepping t o && eqb (port_at t k).point 19)) 0 (passage_cost cost k (after t o) os)
 
 -- no order of the list is a step of port k
 unfoldable pub stepless : ℕ → List Order → Bool

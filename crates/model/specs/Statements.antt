@@ -1,7 +1,7 @@
 -- What is proved of the lock, for a reader who knows the definitions and no proof. A statement stands under a comment that says in words what it means
 -- and which sentence of the demands or of document 01 it is; the line below it names its proof.
 use Rattle.std.specs.Prelude.{◌≡◌, ◌≢◌, true, false, ◌&&◌, ◌||◌, List, [], ◌∷◌, ℕ, ◌-◌, ◌*◌, ◌≤◌, ◌<◌, ◌^◌, get_or}
-use Rattle.std.proofs.Common.{sym, subst, ap, ◌∙◌, arith}
+use Rattle.std.proofs.Common.{sym, subst, ap, ◌∙◌}
 use Rattle.model.specs.declared.Table.{Table}
 use Rattle.model.specs.declared.Outcome.{Outcome}
 use Rattle.model.specs.declared.Made.{Made}
@@ -10,16 +10,15 @@ use Rattle.model.specs.Table.{room, size_good, Sized, port_at, fresh_table}
 use Rattle.model.specs.Mask.{stands, joined, alone, added}
 use Rattle.model.specs.Ring.{next, distance}
 use Rattle.model.specs.Points.{none, p11, point_of}
-use Rattle.model.specs.Good.{named, whole, room_empty, rules, passed, nowhere, good, bad_at, bad_in}
-use Rattle.model.specs.Layout.{present, size}
+use Rattle.model.specs.Good.{named, whole, room_empty, rules, nowhere, good, bad_in}
+use Rattle.model.specs.Layout.{size}
 use Rattle.model.specs.Cost.{free}
 use Rattle.model.specs.Event.{number_of, enter, stepping, crash, refusal, event, fresh}
-use Rattle.model.specs.Run.{Order, order, after, ran, reached, Critical, run, run_answers, answered, done, steps_at, passed_over, cost_since, stepless}
+use Rattle.model.specs.Run.{Order, order, after, ran, reached, Critical, run, run_answers, done, steps_at, passed_over, passage_cost, stepless}
 use Rattle.model.specs.Paid.{paid_event}
 use Rattle.model.specs.Laws.Mask.{set_own, set_other, cleared-own, cleared-other, joined-own, joined-other, alone-own, alone-other}
 use Rattle.model.specs.Laws.Ring.{distance-own, distance-le, next-stands, next-nearest}
 use Rattle.model.specs.Laws.Points.{unnamed, named-point}
-use Rattle.model.specs.Laws.Listed.{rules-good}
 use Rattle.model.specs.Laws.Faults.{bad-event, good-other, lowest, bad-rule, bad-whole, bad-field, bad-inside}
 use Rattle.model.specs.Laws.Cases.{refused-free, orders-free}
 use Rattle.model.specs.Laws.After.{fresh-sized}
@@ -31,7 +30,7 @@ use Rattle.model.specs.Laws.Only.{only-word, only-bit, only-go, only-status}
 use Rattle.model.specs.Laws.Exclusion.{one-critical, keeps-critical, returns-inside}
 use Rattle.model.specs.Laws.Grants.{done-steps}
 use Rattle.model.specs.Laws.Waiting.{waiting}
-use Rattle.model.specs.Laws.Passage.{totals-low, fresh-sums, passage, unfilled, refusal-answered}
+use Rattle.model.specs.Laws.Passage.{passage}
 
 -- Demand 2, 'exactly the effect': two results that meet a promise are equal; first for a promise of any kind of result
 pub one : {A : Type 0} {x r s : A} → r ≡ x → s ≡ x → r ≡ s
@@ -68,29 +67,22 @@ pub good-unanswered : (t : Table) (k e : ℕ) → good t ≡ true → number_of 
 good-unanswered = good-other
 
 -- 'the lowest place deciding': what is bad is the field of a rule that fails, and no rule that fails has a field with a lower place
--- in the image of any version v
-pub bad-fails : (v : ℕ) (t : Table) → good t ≡ false
-    → (i : ℕ) × (((get_or (rules v t) i (true, whole)).0 ≡ false) × (bad_at v t ≡ (get_or (rules v t) i (true, whole)).1))
+pub bad-fails : (t : Table) → good t ≡ false → (i : ℕ) × (((get_or (rules t) i (true, whole)).0 ≡ false) × (bad_in t ≡ (get_or (rules t) i (true, whole)).1))
 bad-fails = bad-rule
 
-pub bad-lowest : (v : ℕ) (t : Table) (i : ℕ) → (get_or (rules v t) i (true, whole)).0 ≡ false
-    → (bad_at v t).place ≤ (get_or (rules v t) i (true, whole)).1.place
-unfolding bad_at
-bad-lowest v t = lowest nowhere (rules v t)
-
--- and the same tests pass at every version
-pub same-rules : (v : ℕ) (t : Table) → passed (rules v t) ≡ good t
-same-rules = rules-good
+pub bad-lowest : (t : Table) (i : ℕ) → (get_or (rules t) i (true, whole)).0 ≡ false → (bad_in t).place ≤ (get_or (rules t) i (true, whole)).1.place
+unfolding bad_in
+bad-lowest t = lowest nowhere (rules t)
 
 -- 'A D out of range, or room above D that isn't 0, is 1.0, before the rest, with port 0 and place 0': then, and only then
-pub bad-as-a-whole : (v : ℕ) (t : Table) → (size_good t.shared.d && room_empty t) ≡ false → bad_at v t ≡ whole
+pub bad-as-a-whole : (t : Table) → (size_good t.shared.d && room_empty t) ≡ false → bad_in t ≡ whole
 bad-as-a-whole = bad-whole
 
-pub bad-in-a-field : (v : ℕ) (t : Table) → (size_good t.shared.d && room_empty t) ≡ true → good t ≡ false → 0 < (bad_at v t).kind
+pub bad-in-a-field : (t : Table) → (size_good t.shared.d && room_empty t) ≡ true → good t ≡ false → 0 < (bad_in t).kind
 bad-in-a-field = bad-field
 
--- 'the byte where the field begins in the image': it lies within the image that a write would give
-pub bad-within : (t : Table) → good t ≡ false → (bad_in t).place < size (present t.shared.d) t.shared.d
+-- 'the byte where the field begins in the image': it lies within the image
+pub bad-within : (t : Table) → good t ≡ false → (bad_in t).place < size t.shared.d
 bad-within = bad-inside
 
 -- 'A refused event gives costs 0 and the table it got'
@@ -169,26 +161,11 @@ module _ (d : ℕ) (some : 1 ≤ d) (fits : d ≤ room) where
       (waiting good-after room_fits (reached d os) k more (reached-sized d os) (always-good os)
       (done-steps (reached d os) (order k stepping) k e).port e p)
 
-  -- Request R-3, 'They equal the sums over the history from fresh': a port's totals are what its orders have cost since its last E or X that was carried out
-  pub totals-sum : (os : List Order) (k : ℕ)
-      → ((port_at (reached d os) k).totals.cached ≡ cost_since (λ u. u.cached) k 0 (fresh_table d) os)
-      × ((port_at (reached d os) k).totals.distributed ≡ cost_since (λ u. u.distributed) k 0 (fresh_table d) os)
-  totals-sum os k = fresh-sums d os k
-
-  -- 'from fresh the limit of 33 is proved of the totals'
-  pub totals-limit : (os : List Order) (k : ℕ) → ((port_at (reached d os) k).totals.cached ≤ 33) × ((port_at (reached d os) k).totals.distributed ≤ 33)
-  totals-limit os k = totals-low d os k
-
-  -- so 'From a fresh table no passage costs more than 33 in either model': from an E or X that is carried out at a port on, over any orders, up to its next E or X;
-  -- after its step at 19 it pays nothing before that
+  -- 'From a fresh table no passage costs more than 33 in either model': from E or X at a port until its step at 19 or its next X
   pub passage-limit : (os : List Order) (k : ℕ) (o : Order) (more : List Order)
       → (done k enter (reached d os) o || done k crash (reached d os) o) ≡ true
-      → (cost_since (λ u. u.cached) k 0 (after (reached d os) o) more ≤ 33) × (cost_since (λ u. u.distributed) k 0 (after (reached d os) o) more ≤ 33)
-  passage-limit os k o more = passage d os k o more
-
-  -- and FULL COUNT, number 12, is never given
-  pub never-full : (os : List Order) (o : Order) → number_of (answered (reached d os) o).answer ≢ 12
-  never-full os o e = unfilled d os o.port o.event (sym (refusal-answered (reached d os) o (λ z. absurd (omega (arith, e, z)))) ∙ e)
+      → (passage_cost (λ u. u.cached) k (after (reached d os) o) more ≤ 33) × (passage_cost (λ u. u.distributed) k (after (reached d os) o) more ≤ 33)
+  passage-limit os k o more = passage (reached d os) k o more (reached-sized d os) (reached-safe d os).life
 
   -- For whoever builds on the lock: which orders change the word, a port's bit in ACTIVE, its GO and its STATUS
   pub word-changes : (os : List Order) (o : Order) → steps_at o.port (17 ∷ 23 ∷ 33 ∷ 43 ∷ []) (reached d os) o ≡ false

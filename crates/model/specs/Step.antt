@@ -3,7 +3,6 @@
 use Rattle.std.specs.Prelude.{Bool, cond, ◌&&◌, ℕ, ◌+◌, ◌-◌, ◌^◌, eqb, ltb}
 use Rattle.model.specs.declared.Word.{Word}
 use Rattle.model.specs.declared.Work.{Work}
-use Rattle.model.specs.declared.Totals.{Totals}
 use Rattle.model.specs.declared.Port.{Port}
 use Rattle.model.specs.declared.Table.{Table}
 use Rattle.model.specs.declared.Outcome.{Outcome}
@@ -16,25 +15,22 @@ use Rattle.model.specs.Cost.{free, read, write, add, swap, touch_status, touch_g
 
 -- a port with one field changed
 abbrev pub at : ℕ → Port → Port
-at n p = port n p.status p.flag p.value p.made p.go p.work p.totals
+at n p = port n p.status p.flag p.value p.made p.go p.work
 
 abbrev pub with_status : ℕ → Port → Port
-with_status n p = port p.point n p.flag p.value p.made p.go p.work p.totals
+with_status n p = port p.point n p.flag p.value p.made p.go p.work
 
 abbrev pub with_flag : ℕ → Port → Port
-with_flag n p = port p.point p.status n p.value p.made p.go p.work p.totals
+with_flag n p = port p.point p.status n p.value p.made p.go p.work
 
 abbrev pub with_value : ℕ → Port → Port
-with_value n p = port p.point p.status p.flag n p.made p.go p.work p.totals
+with_value n p = port p.point p.status p.flag n p.made p.go p.work
 
 abbrev pub with_go : ℕ → Port → Port
-with_go n p = port p.point p.status p.flag p.value p.made n p.work p.totals
+with_go n p = port p.point p.status p.flag p.value p.made n p.work
 
 abbrev pub with_work : Work → Port → Port
-with_work w p = port p.point p.status p.flag p.value p.made p.go w p.totals
-
-abbrev pub with_totals : Totals → Port → Port
-with_totals s p = port p.point p.status p.flag p.value p.made p.go p.work s
+with_work w p = port p.point p.status p.flag p.value p.made p.go w
 
 -- one working value changed; the word as seen
 abbrev pub with_own : ℕ → Port → Port
@@ -69,7 +65,7 @@ moved t k p = put_port t k (settled p)
 
 -- 4: made grows by 1, that number goes to GO and own spin, its value is 0 (with no copies)
 abbrev pub new_spin : Port → Port
-new_spin p = with_own (p.made + 1) (port p.point p.status p.flag 0 (p.made + 1) (p.made + 1) p.work p.totals)
+new_spin p = with_own (p.made + 1) (port p.point p.status p.flag 0 (p.made + 1) (p.made + 1) p.work)
 
 -- x1 where ACTIVE is 0: at 31 the port itself is candidate, 32; at 21 and 41, x4
 unfoldable pub unasked : Tens → ℕ → Port → Port

@@ -2,7 +2,6 @@
 use Rattle.std.specs.Prelude.{◌≡◌, Bool, cond, not, ◌&&◌, List, ℕ, eqb, leb, length, get_or, set, replicate}
 use Rattle.model.specs.declared.Word.{Word}
 use Rattle.model.specs.declared.Work.{Work}
-use Rattle.model.specs.declared.Totals.{Totals}
 use Rattle.model.specs.declared.Port.{Port}
 use Rattle.model.specs.declared.Copies.{Copies}
 use Rattle.model.specs.declared.Shared.{Shared}
@@ -19,10 +18,6 @@ size_good d = leb 1 d && leb d room
 -- the most spins that a port makes
 unfoldable pub most : ℕ
 most = 65535
-
--- the highest total of a passage's costs (request R-3)
-unfoldable pub fullest : ℕ
-fullest = 65000
 
 -- the codes of STATUS; CS is the critical status
 abbrev pub TRY : ℕ
@@ -41,18 +36,15 @@ ABORT = 3
 abbrev pub word : ℕ → ℕ → ℕ → Word
 word taken owner spin = record { spin = spin; owner = owner; taken = taken }
 
--- the records from their fields, in the order of document 01's image: own spin, seen owner, seen spin, candidate, candidate spin; both totals; point, STATUS,
--- flag, latest value, made, GO, working values, totals; the copies of STATUS, GO, latest spin; ACTIVE, its copies, the word's, D, the word; ports, copies, shared
+-- the records from their fields, in the order of document 01's image: own spin, seen owner, seen spin, candidate, candidate spin; point, STATUS, flag,
+-- latest value, made, GO, working values; the copies of STATUS, GO, latest spin; ACTIVE, its copies, the word's, D, the word; ports, copies, shared
 abbrev pub work : ℕ → ℕ → ℕ → ℕ → ℕ → Work
 work own owner spin candidate cspin =
     record { own = own; seenspin = spin; candidatespin = cspin; seenowner = owner; candidate = candidate }
 
-abbrev pub totals : ℕ → ℕ → Totals
-totals cached apart = record { cached = cached; distributed = apart }
-
-abbrev pub port : ℕ → ℕ → ℕ → ℕ → ℕ → ℕ → Work → Totals → Port
-port point status flag value made go w s =
-    record { work = w; totals = s; made = made; go = go; point = point; status = status; flag = flag; value = value }
+abbrev pub port : ℕ → ℕ → ℕ → ℕ → ℕ → ℕ → Work → Port
+port point status flag value made go w =
+    record { work = w; made = made; go = go; point = point; status = status; flag = flag; value = value }
 
 abbrev pub copies : ℕ → ℕ → ℕ → Copies
 copies status go spin = record { status = status; go = go; spin = spin }
@@ -63,15 +55,12 @@ shared active ac wc d w = record { active = active; activecopies = ac; wordcopie
 abbrev pub table : List Port → List Copies → Shared → Table
 table ps cs s = record { ports = ps; copies = cs; shared = s }
 
--- all working values 0; both totals 0; a port that is all 0; no copies of a port's words
+-- all working values 0; a port that is all 0; no copies of a port's words
 abbrev pub no_work : Work
 no_work = work 0 0 0 0 0
 
-abbrev pub no_totals : Totals
-no_totals = totals 0 0
-
 abbrev pub no_port : Port
-no_port = port 0 TRY 0 0 0 0 no_work no_totals
+no_port = port 0 TRY 0 0 0 0 no_work
 
 abbrev pub no_copies : Copies
 no_copies = copies 0 0 0

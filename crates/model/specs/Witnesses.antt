@@ -1,8 +1,8 @@
 -- Against emptiness: the premises of the statements of demand 3 are met, each by a schedule that is computed.
 use Rattle.std.specs.Prelude.{◌≡◌, refl, true, List, [], ◌∷◌, ◌++◌, ℕ, replicate}
-use Rattle.model.specs.Table.{CS, totals, port_at, fresh_table}
+use Rattle.model.specs.Table.{CS, port_at, fresh_table}
 use Rattle.model.specs.Event.{enter, stepping, crash, leave}
-use Rattle.model.specs.Run.{Order, order, after, ran, done, passed_over, cost_since}
+use Rattle.model.specs.Run.{Order, order, after, ran, done, passed_over, passage_cost}
 use Rattle.model.specs.Laws.Compute.{everything}
 
 -- n steps of port k
@@ -39,9 +39,10 @@ passed_over_lem = (refl, refl, refl)
 abbrev passage : List Order
 passage = steps 14 0 ++ (order 0 leave ∷ steps 13 0)
 
-pub lone-passage : (cost_since (λ u. u.cached) 0 0 (after (fresh_table 2) (order 0 enter)) (steps 14 0) ≡ 9)
-    × (cost_since (λ u. u.distributed) 0 0 (after (fresh_table 2) (order 0 enter)) (steps 14 0) ≡ 6)
-    × ((port_at (ran (after (fresh_table 2) (order 0 enter)) passage) 0).totals ≡ totals 15 14)
+pub lone-passage : (passage_cost (λ u. u.cached) 0 (after (fresh_table 2) (order 0 enter)) (steps 14 0) ≡ 9)
+    × (passage_cost (λ u. u.distributed) 0 (after (fresh_table 2) (order 0 enter)) (steps 14 0) ≡ 6)
+    × (passage_cost (λ u. u.cached) 0 (after (fresh_table 2) (order 0 enter)) passage ≡ 15)
+    × (passage_cost (λ u. u.distributed) 0 (after (fresh_table 2) (order 0 enter)) passage ≡ 14)
     × ((port_at (ran (after (fresh_table 2) (order 0 enter)) passage) 0).point ≡ 0)
 unfolding everything
-lone-passage = (refl, refl, refl, refl)
+lone-passage = (refl, refl, refl, refl, refl)

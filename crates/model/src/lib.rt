@@ -21,18 +21,10 @@ pub struct Work {
     pub candidate: u8,
 }
 
-// What a port's passage has cost so far in both models (request R-3).
-#[derive(Drop)]
-pub struct Totals {
-    pub cached: u16,
-    pub distributed: u16,
-}
-
-// One port: its working values, its totals, the count of spins made, GO, point, STATUS, call-off flag, and the value of its latest spin.
+// One port: its working values, the count of spins made, GO, point, STATUS, call-off flag, and the value of its latest spin.
 #[derive(Drop)]
 pub struct Port {
     pub work: Work,
-    pub totals: Totals,
     pub made: u16,
     pub go: u16,
     pub point: u8,
@@ -157,7 +149,6 @@ pub enum Answer {
     BadSize,
     ShortRoom,
     BadImage,
-    FullCount,
 }
 
 // What an event answers: the table after it, the cached and the distributed cost, and the answer.

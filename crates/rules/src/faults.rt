@@ -2,10 +2,9 @@
 ghost use Rattle.std.specs.Prelude.{◌≡◌, cond, ◌+◌, ◌*◌, ◌≤◌};
 ghost use mathlib.Core.List.{foldl};
 ghost use Rattle.model.specs.Table.{size_good};
-ghost use Rattle.model.specs.Bytes.{sum};
-ghost use Rattle.model.specs.Layout.{head_widths, set_width, port_place, copies_place};
+ghost use Rattle.model.specs.Layout.{set_width, port_place, copies_place};
 ghost use Rattle.model.specs.Good as Good;
-ghost use Rattle.rules.specs.Faults.{spin_fault, totalFault};
+ghost use Rattle.rules.specs.Faults.{spin_fault};
 
 use crate::good;
 use model::{Copies, Fault, Port, Shared};
@@ -24,46 +23,46 @@ fn lower(f: Fault, ok: bool, x: Fault) -> Fault
     x
 }
 
-// A field of what all share, and one of port k, with so many bytes of the record before it, in the image of version v.
-fn shared_field(v: u8, d: u8, before: u16) -> Fault
+// A field of what all share, and one of port k, with so many bytes of the record before it.
+fn shared_field(d: u8, before: u16) -> Fault
     requires { before ≤ 15 }
-    ensures { result ≡ Good.fault 1 d (sum (head_widths v) + before) }
+    ensures { result ≡ Good.fault 1 d (14 + before) }
 {
     Fault {
         kind: 1,
         port: d,
-        place: layout::head_size(v) as u16 + before,
+        place: 14 + before,
     }
 }
 
-fn port_field(kind: u8, v: u8, k: u8, before: u16) -> Fault
+fn port_field(kind: u8, k: u8, before: u16) -> Fault
     requires { before ≤ 15 }
-    ensures { result ≡ Good.fault kind k (port_place v k + before) }
+    ensures { result ≡ Good.fault kind k (port_place k + before) }
 {
     Fault {
         kind,
         port: k,
-        place: layout::port_place(v, k) as u16 + before,
+        place: layout::port_place(k) as u16 + before,
     }
 }
 
 // Made of port j, if that stands after the field of port k that a spin number stands in.
-fn spin_field(v: u8, k: u8, j: u8, before: u16) -> Fault
+fn spin_field(k: u8, j: u8, before: u16) -> Fault
     requires { before ≤ 15 }
-    ensures { result ≡ spin_fault v k j before }
+    ensures { result ≡ spin_fault k j before }
 {
     if k < j {
-        return port_field(2, v, j, 4);
+        return port_field(2, j, 4);
     }
-    port_field(3, v, k, before)
+    port_field(3, k, before)
 }
 
 // A copy set that all share, and one of port k, with so many sets of the record before it.
-fn copied_field(v: u8, d: u8, before: u16) -> Fault
+fn copied_field(d: u8, before: u16) -> Fault
     requires { before ≤ 2 }
-    ensures { result ≡ Good.fault 4 d (port_place v d + before * set_width d) }
+    ensures { result ≡ Good.fault 4 d (port_place d + before * set_width d) }
 {
-    let at = layout::port_place(v, d) + (before as usize) * layout::set_width(d);
+    let at = layout::port_place(d) + (before as usize) * layout::set_width(d);
     Fault {
         kind: 4,
         port: d,
@@ -71,32 +70,15 @@ fn copied_field(v: u8, d: u8, before: u16) -> Fault
     }
 }
 
-fn copies_field(v: u8, d: u8, k: u8, before: u16) -> Fault
+fn copies_field(d: u8, k: u8, before: u16) -> Fault
     requires { before ≤ 2 }
-    ensures { result ≡ Good.fault 4 k (copies_place v d k + before * set_width d) }
+    ensures { result ≡ Good.fault 4 k (copies_place d k + before * set_width d) }
 {
-    let at = layout::copies_place(v, d, k) + (before as usize) * layout::set_width(d);
+    let at = layout::copies_place(d, k) + (before as usize) * layout::set_width(d);
     Fault {
         kind: 4,
         port: k,
         place: at as u16,
-    }
-}
-
-// The cached total of port k, and its distributed one.
-fn totals_field(v: u8, d: u8, k: u8, second: bool) -> Fault
-    ensures { result ≡ totalFault v d k second }
-{
-    let at = layout::totals_place(v, d, k);
-    let next = if second & (layout::COUNTED <= v) {
-        2
-    } else {
-        0
-    };
-    Fault {
-        kind: 2,
-        port: k,
-        place: (at + next) as u16,
     }
 }
 
@@ -108,8 +90,8 @@ fn spin_good(d: u64, j: u8, n: u16, made: u16) -> bool
 }
 
 // What is bad in the table as a whole and in what all share, with made of the word's owner; `empty` says that room above D is.
-pub fn shared_fault(v: u8, empty: bool, s: Shared, ownermade: u16) -> Fault
-    ensures { result ≡ foldl Good.lower Good.nowhere (Good.shared_rules v empty s ownermade) }
+pub fn shared_fault(empty: bool, s: Shared, ownermade: u16) -> Fault
+    ensures { result ≡ foldl Good.lower Good.nowhere (Good.shared_rules empty s ownermade) }
 {
     if !(good::size_good(s.d) & empty) {
         return Fault {
@@ -125,111 +107,92 @@ pub fn shared_fault(v: u8, empty: bool, s: Shared, ownermade: u16) -> Fault
     };
     let w = s.word;
     let d = s.d as u8;
-    let a = lower(none, masks::within(s.d, s.active), shared_field(v, d, 0));
-    let b = lower(a, w.taken <= 1, shared_field(v, d, 8));
-    let c = lower(b, (w.owner as u64) < s.d, shared_field(v, d, 9));
+    let a = lower(none, masks::within(s.d, s.active), shared_field(d, 0));
+    let b = lower(a, w.taken <= 1, shared_field(d, 8));
+    let c = lower(b, (w.owner as u64) < s.d, shared_field(d, 9));
     let e = lower(
         c,
         spin_good(s.d, w.owner, w.spin, ownermade),
-        port_field(2, v, w.owner, 4),
+        port_field(2, w.owner, 4),
     );
-    let g = lower(e, masks::within(s.d, s.activecopies), copied_field(v, d, 0));
-    lower(g, masks::within(s.d, s.wordcopies), copied_field(v, d, 1))
+    let g = lower(e, masks::within(s.d, s.activecopies), copied_field(d, 0));
+    lower(g, masks::within(s.d, s.wordcopies), copied_field(d, 1))
 }
 
 // What is bad after the fields of port k.
-fn fields_fault(f: Fault, v: u8, active: u64, k: u8, p: Port) -> Fault
-    ensures { result ≡ foldl Good.lower f (Good.field_rules v active k p) }
+fn fields_fault(f: Fault, active: u64, k: u8, p: Port) -> Fault
+    ensures { result ≡ foldl Good.lower f (Good.field_rules active k p) }
 {
     let n = p.point;
     let bit = masks::stands(active, k as u64);
-    let a = lower(f, places::has(good::NAMED, n), port_field(2, v, k, 0));
-    let b = lower(a, !(n == 6) | !bit, port_field(2, v, k, 0));
-    let c = lower(b, !(n == 15) | bit, port_field(2, v, k, 0));
-    let d = lower(c, p.status <= 3, port_field(2, v, k, 1));
-    let e = lower(d, p.flag <= 1, port_field(2, v, k, 2));
-    let g = lower(e, !(n == 0) | (p.flag == 0), port_field(2, v, k, 2));
-    let h = lower(g, p.value <= 1, port_field(2, v, k, 3));
-    let i = lower(h, p.made <= good::MOST, port_field(2, v, k, 4));
-    let j = lower(i, !(p.made == 0) | (p.value == 0), port_field(2, v, k, 4));
-    lower(j, p.go <= p.made, port_field(2, v, k, 6))
+    let a = lower(f, places::has(good::NAMED, n), port_field(2, k, 0));
+    let b = lower(a, !(n == 6) | !bit, port_field(2, k, 0));
+    let c = lower(b, !(n == 15) | bit, port_field(2, k, 0));
+    let d = lower(c, p.status <= 3, port_field(2, k, 1));
+    let e = lower(d, p.flag <= 1, port_field(2, k, 2));
+    let g = lower(e, !(n == 0) | (p.flag == 0), port_field(2, k, 2));
+    let h = lower(g, p.value <= 1, port_field(2, k, 3));
+    let i = lower(h, p.made <= good::MOST, port_field(2, k, 4));
+    let j = lower(i, !(p.made == 0) | (p.value == 0), port_field(2, k, 4));
+    lower(j, p.go <= p.made, port_field(2, k, 6))
 }
 
 // What is bad after the working values of port k, with made of its seen owner and of its candidate.
-fn work_fault(f: Fault, v: u8, d: u64, k: u8, p: Port, seenmade: u16, candidatemade: u16) -> Fault
-    ensures { result ≡ foldl Good.lower f (Good.work_rules v d k p seenmade candidatemade) }
+fn work_fault(f: Fault, d: u64, k: u8, p: Port, seenmade: u16, candidatemade: u16) -> Fault
+    ensures { result ≡ foldl Good.lower f (Good.work_rules d k p seenmade candidatemade) }
 {
     let n = p.point;
     let w = p.work;
     let seen = places::has(places::SEEN, n);
     let x5 = (n == 25) | (n == 35) | (n == 45);
-    let a = lower(f, w.own <= p.made, port_field(3, v, k, 8));
+    let a = lower(f, w.own <= p.made, port_field(3, k, 8));
     let b = lower(
         a,
         places::has(places::OWN, n) | (w.own == 0),
-        port_field(3, v, k, 8),
+        port_field(3, k, 8),
     );
-    let c = lower(b, (w.seenowner as u64) < d, port_field(3, v, k, 10));
-    let e = lower(c, seen | (w.seenowner == 0), port_field(3, v, k, 10));
-    let g = lower(e, seen | (w.seenspin == 0), port_field(3, v, k, 11));
-    let h = lower(g, !x5 | (0 < w.seenspin), port_field(3, v, k, 11));
+    let c = lower(b, (w.seenowner as u64) < d, port_field(3, k, 10));
+    let e = lower(c, seen | (w.seenowner == 0), port_field(3, k, 10));
+    let g = lower(e, seen | (w.seenspin == 0), port_field(3, k, 11));
+    let h = lower(g, !x5 | (0 < w.seenspin), port_field(3, k, 11));
     let i = lower(
         h,
         spin_good(d, w.seenowner, w.seenspin, seenmade),
-        spin_field(v, k, w.seenowner, 11),
+        spin_field(k, w.seenowner, 11),
     );
-    let j = lower(i, (w.candidate as u64) < d, port_field(3, v, k, 13));
+    let j = lower(i, (w.candidate as u64) < d, port_field(3, k, 13));
     let l = lower(
         j,
         places::has(places::CANDIDATE, n) | (w.candidate == 0),
-        port_field(3, v, k, 13),
+        port_field(3, k, 13),
     );
     let m = lower(
         l,
         places::has(places::CANDIDATE_SPIN, n) | (w.candidatespin == 0),
-        port_field(3, v, k, 14),
+        port_field(3, k, 14),
     );
     lower(
         m,
         spin_good(d, w.candidate, w.candidatespin, candidatemade),
-        spin_field(v, k, w.candidate, 14),
+        spin_field(k, w.candidate, 14),
     )
 }
 
 // What is bad after the copy sets of port k, where D is in range.
-fn copies_fault(f: Fault, v: u8, d: u64, k: u8, made: u16, c: Copies) -> Fault
+fn copies_fault(f: Fault, d: u64, k: u8, made: u16, c: Copies) -> Fault
     requires { d ≤ 64 }
-    ensures { result ≡ foldl Good.lower f (Good.copy_rules v d k made c) }
+    ensures { result ≡ foldl Good.lower f (Good.copy_rules d k made c) }
 {
     let n = d as u8;
-    let a = lower(f, masks::within(d, c.status), copies_field(v, n, k, 0));
-    let b = lower(a, masks::within(d, c.go), copies_field(v, n, k, 1));
-    let e = lower(b, masks::within(d, c.spin), copies_field(v, n, k, 2));
-    lower(e, !(made == 0) | (c.spin == 0), copies_field(v, n, k, 2))
-}
-
-// What is bad after the totals of port k, where D is in range.
-fn totals_fault(f: Fault, v: u8, d: u64, k: u8, p: Port) -> Fault
-    requires { d ≤ 64 }
-    ensures { result ≡ foldl Good.lower f (Good.total_rules v d k p) }
-{
-    let n = d as u8;
-    let a = lower(
-        f,
-        p.totals.cached <= good::FULLEST,
-        totals_field(v, n, k, false),
-    );
-    lower(
-        a,
-        p.totals.distributed <= good::FULLEST,
-        totals_field(v, n, k, true),
-    )
+    let a = lower(f, masks::within(d, c.status), copies_field(n, k, 0));
+    let b = lower(a, masks::within(d, c.go), copies_field(n, k, 1));
+    let e = lower(b, masks::within(d, c.spin), copies_field(n, k, 2));
+    lower(e, !(made == 0) | (c.spin == 0), copies_field(n, k, 2))
 }
 
 // What is bad after port k, with made of its seen owner and of its candidate; no port is looked at where D is out of range.
 pub fn port_fault(
     f: Fault,
-    v: u8,
     s: Shared,
     k: u8,
     p: Port,
@@ -237,13 +200,12 @@ pub fn port_fault(
     seenmade: u16,
     candidatemade: u16,
 ) -> Fault
-    ensures { result ≡ cond (size_good s.d) (foldl Good.lower f (Good.port_rules v s k p c seenmade candidatemade)) f }
+    ensures { result ≡ cond (size_good s.d) (foldl Good.lower f (Good.port_rules s k p c seenmade candidatemade)) f }
 {
     if !good::size_good(s.d) {
         return f;
     }
-    let a = fields_fault(f, v, s.active, k, p);
-    let b = work_fault(a, v, s.d, k, p, seenmade, candidatemade);
-    let e = copies_fault(b, v, s.d, k, p.made, c);
-    totals_fault(e, v, s.d, k, p)
+    let a = fields_fault(f, s.active, k, p);
+    let b = work_fault(a, s.d, k, p, seenmade, candidatemade);
+    copies_fault(b, s.d, k, p.made, c)
 }

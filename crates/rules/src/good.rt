@@ -14,9 +14,6 @@ pub const NAMED: u64 = 127 | 4095 << 8 | 63 << 20 | 63 << 30 | 63 << 40;
 // The most spins that a port makes.
 pub const MOST: u16 = 65535;
 
-// The highest total of a passage's costs.
-pub const FULLEST: u16 = 65000;
-
 // D is 1 to the room.
 pub fn size_good(d: u64) -> bool
     ensures { result ≡ size_good d }
@@ -80,22 +77,12 @@ fn copies_good(d: u64, made: u16, c: Copies) -> bool
         & (!(made == 0) | (c.spin == 0))
 }
 
-// Both totals of a port.
-fn totals_good(p: Port) -> bool
-    ensures { result ≡ Good.totals_good p }
-{
-    (p.totals.cached <= FULLEST) & (p.totals.distributed <= FULLEST)
-}
-
-// The rules for port k that look at no other port: fields, totals, copy sets, own spin.
+// The rules for port k that look at no other port: fields, copy sets, own spin.
 pub fn own_good(s: Shared, k: u64, p: Port, c: Copies) -> bool
     ensures { result ≡ Rules.own_tests s k p c }
 {
     let own = p.work.own;
     if !fields_good(s.active, k, p) {
-        return false;
-    }
-    if !totals_good(p) {
         return false;
     }
     if !copies_good(s.d, p.made, c) {
@@ -148,15 +135,9 @@ fn joined_bytes(p: Port) -> u8
 }
 
 fn joined_spins(p: Port) -> u16
-    ensures { result ≡ bit_or (bit_or (bit_or (bit_or (bit_or (bit_or p.made p.go) p.work.own) p.work.seenspin) p.work.candidatespin) p.totals.cached) p.totals.distributed }
+    ensures { result ≡ bit_or (bit_or (bit_or (bit_or p.made p.go) p.work.own) p.work.seenspin) p.work.candidatespin }
 {
-    p.made
-        | p.go
-        | p.work.own
-        | p.work.seenspin
-        | p.work.candidatespin
-        | p.totals.cached
-        | p.totals.distributed
+    p.made | p.go | p.work.own | p.work.seenspin | p.work.candidatespin
 }
 
 // All that is kept for a port, joined bit by bit: 0 where each of it is.

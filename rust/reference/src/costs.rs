@@ -2,23 +2,17 @@
 
 use crate::points::{touch, Kind, Object};
 use crate::table::Port;
-use crate::words::{Cell, Words, WordsMut};
+use crate::words::{Cell, WordsMut};
 
-/// What a step touches.
-struct Touch {
-    /// The word; none for a spin that isn't the latest.
-    cell: Option<Cell>,
-    /// The port that it is local to.
-    home: Option<usize>,
-    /// How it is touched.
-    kind: Kind,
-}
-
-/// What the step touches that port `k`, which is `p`, is about to make.
-fn touched(words: &impl Words, k: usize, p: &Port) -> Option<Touch> {
-    let (object, kind) = touch(p.point)?;
+/// The cached and the distributed cost of the step that port `k`, which is `p`, is about to make. Copy sets become those
+/// after it.
+pub(crate) fn charge(words: &mut impl WordsMut, k: usize, p: &Port) -> (u64, u64) {
+    let Some((object, kind)) = touch(p.point) else {
+        return (0, 0);
+    };
     let seen = p.seen_owner as usize;
     let candidate = p.candidate as usize;
+    // The touched word, none for a spin that isn't the latest; and the port it is local to.
     let (cell, home) = match object {
         Object::Active => (Some(Cell::Active), None),
         Object::Word => (Some(Cell::Word), None),
@@ -34,29 +28,17 @@ fn touched(words: &impl Words, k: usize, p: &Port) -> Option<Touch> {
             Some(seen),
         ),
     };
-    Some(Touch { cell, home, kind })
-}
-
-/// The cached and the distributed cost of that step.
-pub(crate) fn costs(words: &impl Words, k: usize, p: &Port) -> (u64, u64) {
-    let Some(touch) = touched(words, k, p) else {
-        return (0, 0);
+    let distributed = u64::from(home != Some(k));
+    let Some(cell) = cell else {
+        return (1, distributed);
     };
-    let free = match (touch.kind, touch.cell) {
-        (Kind::Read, Some(cell)) => words.copies(cell) >> k & 1 == 1,
-        _ => false,
-    };
-    (u64::from(!free), u64::from(touch.home != Some(k)))
-}
-
-/// Copy sets become those after that step.
-pub(crate) fn copy(words: &mut impl WordsMut, k: usize, p: &Port) {
     let bit = 1u64 << k;
-    let touch = touched(words, k, p);
-    if let Some((cell, kind)) = touch.and_then(|touch| Some((touch.cell?, touch.kind))) {
-        words.renew(cell, |copies| match kind {
-            Kind::Read => copies | bit,
-            Kind::Write | Kind::Add | Kind::Swap => bit,
-        });
-    }
+    let cached = match kind {
+        Kind::Read => words.renew(cell, |copies| copies | bit) & bit == 0,
+        Kind::Write | Kind::Add | Kind::Swap => {
+            words.renew(cell, |_| bit);
+            true
+        }
+    };
+    (u64::from(cached), distributed)
 }

@@ -1,6 +1,6 @@
 //! What is bad in a table: kind, port, and the byte of the image where the field begins (request R-2).
 
-use crate::layout::Layout;
+use crate::layout::{port_place, set_place};
 use crate::number::BAD_TABLE;
 use crate::words::Cell;
 
@@ -11,7 +11,7 @@ pub struct Fault {
     pub kind: u64,
     /// The port whose field it is; D for what all share.
     pub port: u64,
-    /// The byte where the field begins in the image that is read, or that a write of the table would give.
+    /// The byte where the field begins in the image that a write of the table would give.
     pub place: u64,
 }
 
@@ -32,7 +32,7 @@ impl Fault {
 /// A field that a rule can be charged to.
 #[derive(Clone, Copy)]
 pub(crate) enum Field {
-    /// What all share, with its place in the first body.
+    /// What all share, with its place.
     Shared(usize),
     /// A field of a port, with its place in the record.
     Port(usize, usize),
@@ -40,22 +40,19 @@ pub(crate) enum Field {
     Work(usize, usize),
     /// A copy set.
     Copies(Cell),
-    /// A total of a port, with its place among the port's totals.
-    Total(usize, usize),
 }
 
 impl Field {
-    /// What is bad where a rule that is charged to this field fails, by the places of an image.
-    pub(crate) fn fault(self, layout: Layout) -> Fault {
+    /// What is bad where a rule that is charged to this field fails, in a table of `d` ports.
+    pub(crate) fn fault(self, d: usize) -> Fault {
         let (kind, port, place) = match self {
-            Field::Shared(at) => (1, layout.d(), layout.shared_place() + at),
-            Field::Port(k, at) => (2, k, layout.port_place(k) + at),
-            Field::Work(k, at) => (3, k, layout.port_place(k) + at),
+            Field::Shared(place) => (1, d, place),
+            Field::Port(k, at) => (2, k, port_place(k) + at),
+            Field::Work(k, at) => (3, k, port_place(k) + at),
             Field::Copies(cell) => match cell {
-                Cell::Active | Cell::Word => (4, layout.d(), layout.set_place(cell)),
-                Cell::Status(k) | Cell::Go(k) | Cell::Spin(k) => (4, k, layout.set_place(cell)),
+                Cell::Active | Cell::Word => (4, d, set_place(d, cell)),
+                Cell::Status(k) | Cell::Go(k) | Cell::Spin(k) => (4, k, set_place(d, cell)),
             },
-            Field::Total(k, at) => (2, k, layout.totals_place(k) + at),
         };
         Fault {
             kind,

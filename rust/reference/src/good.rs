@@ -1,8 +1,8 @@
-//! Good tables, rule by rule in document 01's order, and then that of request R-3.
+//! Good tables, rule by rule in document 01's order.
 
 use crate::points::{candidate_has, candidate_spin_has, named, own_spin_has, seen_has};
 use crate::status;
-use crate::table::{Copies, Port, Table, FULL, ROOM};
+use crate::table::{Copies, Port, Table, ROOM};
 use crate::words::{Cell, Words};
 
 /// Whether a table is good: D and the room above it, and the rules for the words of its ports.
@@ -83,7 +83,4 @@ fn port_sound(words: &impl Words, k: usize, above: u64, own_bit: u64) -> bool {
         && (seen_has(p.point) || (p.seen_owner == 0 && p.seen_spin == 0))
         && (candidate_has(p.point) || p.candidate == 0)
         && (candidate_spin_has(p.point) || p.candidate_spin == 0)
-        // No total is above 65,000.
-        && p.cached_total <= FULL
-        && p.distributed_total <= FULL
 }

@@ -1,21 +1,22 @@
 //! The words of a lock in the bytes of its image.
 
 use crate::layout::record::*;
-use crate::layout::{shared, totals, Layout, PORT};
+use crate::layout::{
+    narrow, port_place, set_place, ACTIVE_PLACE, OWNER_PLACE, PORT, SPIN_PLACE, TAKEN_PLACE,
+};
 use crate::table::{Port, Word};
 use crate::words::{Cell, Words, WordsMut};
 use std::ops::{Deref, DerefMut};
 
-/// The bytes of an image, lent for reading, or for writing too where it is of a present version. They are as long as the
-/// layout says.
+/// The bytes of an image of `d` ports, lent for reading or for writing too. They are as long as such an image.
 pub(crate) struct Held<B> {
-    layout: Layout,
+    d: usize,
     bytes: B,
 }
 
 impl<B: Deref<Target = [u8]>> Held<B> {
-    pub(crate) fn new(layout: Layout, bytes: B) -> Held<B> {
-        Held { layout, bytes }
+    pub(crate) fn new(d: usize, bytes: B) -> Held<B> {
+        Held { d, bytes }
     }
 
     fn two(&self, at: usize) -> u16 {
@@ -39,38 +40,31 @@ impl<B: DerefMut<Target = [u8]>> Held<B> {
 
 impl<B: Deref<Target = [u8]>> Words for Held<B> {
     fn d(&self) -> usize {
-        self.layout.d()
+        self.d
     }
 
     fn active(&self) -> u64 {
-        self.eight(self.layout.shared_place() + shared::ACTIVE)
+        self.eight(ACTIVE_PLACE)
     }
 
     fn word(&self) -> Word {
-        let at = self.layout.shared_place();
         Word {
-            taken: self.bytes[at + shared::TAKEN],
-            owner: self.bytes[at + shared::OWNER],
-            spin: self.two(at + shared::SPIN),
+            taken: self.bytes[TAKEN_PLACE],
+            owner: self.bytes[OWNER_PLACE],
+            spin: self.two(SPIN_PLACE),
         }
     }
 
     fn port(&self, k: usize) -> Port {
-        let record = self.bytes[self.layout.port_place(k)..].first_chunk();
-        let mut port = unpacked(record.expect("a port of the image"));
-        if self.layout.has_totals() {
-            let at = self.layout.totals_place(k);
-            port.cached_total = self.two(at + totals::CACHED);
-            port.distributed_total = self.two(at + totals::DISTRIBUTED);
-        }
-        port
+        let record = self.bytes[port_place(k)..].first_chunk();
+        unpacked(record.expect("a port of the image"))
     }
 
     // The rules ask for three sets of each port: without the hint each is a call.
     #[inline]
     fn copies(&self, cell: Cell) -> u64 {
-        let at = self.layout.set_place(cell);
-        if self.layout.narrow() {
+        let at = set_place(self.d, cell);
+        if narrow(self.d) {
             u64::from(self.two(at))
         } else {
             self.eight(at)
@@ -80,36 +74,33 @@ impl<B: Deref<Target = [u8]>> Words for Held<B> {
 
 impl<B: DerefMut<Target = [u8]>> WordsMut for Held<B> {
     fn set_active(&mut self, active: u64) {
-        let at = self.layout.shared_place() + shared::ACTIVE;
-        self.put(at, &active.to_le_bytes());
+        self.put(ACTIVE_PLACE, &active.to_le_bytes());
     }
 
     fn set_word(&mut self, word: Word) {
         let [low, high] = word.spin.to_le_bytes();
-        let at = self.layout.shared_place() + shared::TAKEN;
-        self.put(at, &[word.taken, word.owner, low, high]);
+        self.put(TAKEN_PLACE, &[word.taken, word.owner, low, high]);
     }
 
     fn set_port(&mut self, k: usize, port: Port) {
-        self.put(self.layout.port_place(k), &packed(&port));
-        let at = self.layout.totals_place(k);
-        self.put(at + totals::CACHED, &port.cached_total.to_le_bytes());
-        let distributed = port.distributed_total.to_le_bytes();
-        self.put(at + totals::DISTRIBUTED, &distributed);
+        self.put(port_place(k), &packed(&port));
     }
 
-    fn renew(&mut self, cell: Cell, change: impl FnOnce(u64) -> u64) {
-        let at = self.layout.set_place(cell);
-        let copies = change(self.copies(cell));
-        if self.layout.narrow() {
-            self.put(at, &(copies as u16).to_le_bytes());
+    fn renew(&mut self, cell: Cell, change: impl FnOnce(u64) -> u64) -> u64 {
+        let at = set_place(self.d, cell);
+        if narrow(self.d) {
+            let before = u64::from(self.two(at));
+            self.put(at, &(change(before) as u16).to_le_bytes());
+            before
         } else {
-            self.put(at, &copies.to_le_bytes());
+            let before = self.eight(at);
+            self.put(at, &change(before).to_le_bytes());
+            before
         }
     }
 }
 
-/// A port from its record, which hasn't its totals.
+/// A port from its record.
 fn unpacked(record: &[u8; PORT]) -> Port {
     let two = |at: usize| u16::from_le_bytes([record[at], record[at + 1]]);
     Port {
@@ -124,8 +115,6 @@ fn unpacked(record: &[u8; PORT]) -> Port {
         seen_spin: two(SEEN_SPIN),
         candidate: record[CANDIDATE],
         candidate_spin: two(CANDIDATE_SPIN),
-        cached_total: 0,
-        distributed_total: 0,
     }
 }
 

@@ -1,10 +1,10 @@
 //! The boundary's functions on the bytes of an image where they stand, without a table. They answer what those of
 //! [`crate::boundary`] do.
 
-use crate::events::{admitted, carry_out, packed};
+use crate::events::{act, admitted, packed};
 use crate::held::Held;
-use crate::image::{encode, layout, put_head};
-use crate::layout::{length, Layout};
+use crate::image::{ports, put_head};
+use crate::layout::length;
 use crate::number::*;
 use crate::rules::bad_words;
 use crate::table::ROOM;
@@ -14,13 +14,13 @@ pub fn fresh(d: u64, room: &mut [u8]) -> u64 {
     if !(1..=ROOM as u64).contains(&d) {
         return BAD_SIZE;
     }
-    let layout = Layout::present(d as usize);
-    let Some(image) = room.get_mut(..layout.length()) else {
+    let long = length(d as usize);
+    let Some(image) = room.get_mut(..long) else {
         return SHORT_ROOM;
     };
     image.fill(0);
-    put_head(layout, image);
-    DONE + 256 * image.len() as u64
+    put_head(d as usize, image);
+    DONE + 256 * long as u64
 }
 
 /// The reader's answer.
@@ -31,11 +31,11 @@ pub fn check(image: &[u8]) -> u64 {
     }
 }
 
-/// The layout of the image of a good table, or the reader's refusal.
-fn checked(image: &[u8]) -> Result<Layout, u64> {
-    let layout = layout(image).ok_or(BAD_IMAGE)?;
-    match bad_words(&Held::new(layout, image), layout) {
-        None => Ok(layout),
+/// D of the image of a good table, or the reader's refusal.
+fn checked(image: &[u8]) -> Result<usize, u64> {
+    let d = ports(image).ok_or(BAD_IMAGE)?;
+    match bad_words(&Held::new(d, image)) {
+        None => Ok(d),
         Some(fault) => Err(fault.answer()),
     }
 }
@@ -43,70 +43,40 @@ fn checked(image: &[u8]) -> Result<Layout, u64> {
 /// Carries out an event on an image: number + 256 * cached + 65536 * distributed.
 pub fn event(image: &mut [u8], port: u64, event: u64) -> u64 {
     match checked(image) {
-        Ok(layout) => act_in(image, layout, port, event),
+        Ok(d) => act_in(image, d, port, event),
         Err(refusal) => refusal,
     }
 }
 
 /// The same with the image after the event at the start of `next`; `image` stays.
 pub fn event_into(image: &[u8], next: &mut [u8], port: u64, event: u64) -> u64 {
-    let layout = match checked(image) {
-        Ok(layout) => layout,
+    let d = match checked(image) {
+        Ok(d) => d,
         Err(refusal) => return refusal,
     };
-    if let Err(number) = admitted(&Held::new(layout, image), port, event) {
+    if let Err(number) = admitted(&Held::new(d, image), port, event) {
         return number;
     }
-    match put(image, layout, next) {
-        Some(next) => act_in(next, Layout::present(layout.d()), port, event),
-        None => SHORT_ROOM,
-    }
-}
-
-/// Puts an image of any version that is read, in the present one, at the start of `room`: number + 256 * its length.
-pub fn renew(image: &[u8], room: &mut [u8]) -> u64 {
-    let layout = match checked(image) {
-        Ok(layout) => layout,
-        Err(refusal) => return refusal,
-    };
-    match put(image, layout, room) {
-        Some(renewed) => DONE + 256 * renewed.len() as u64,
-        None => SHORT_ROOM,
-    }
-}
-
-/// Carries out pairs of port and event on an image with one look at it: the reader's answer, or `SHORT_ROOM`.
-pub fn run(image: &mut [u8], orders: &[u64], answers: &mut [u64]) -> u64 {
-    let layout = match checked(image) {
-        Ok(layout) => layout,
-        Err(refusal) => return refusal,
-    };
-    if !layout.is_present() {
+    let Some(next) = next.get_mut(..image.len()) else {
         return SHORT_ROOM;
-    }
+    };
+    next.copy_from_slice(image);
+    act_in(next, d, port, event)
+}
+
+/// Carries out pairs of port and event on an image with one look at it: the reader's answer.
+pub fn run(image: &mut [u8], orders: &[u64], answers: &mut [u64]) -> u64 {
+    let d = match checked(image) {
+        Ok(d) => d,
+        Err(refusal) => return refusal,
+    };
     for (order, answer) in orders.chunks_exact(2).zip(answers) {
-        *answer = act_in(image, layout, order[0], order[1]);
+        *answer = act_in(image, d, order[0], order[1]);
     }
     DONE
 }
 
-/// An event on the image of a good table. One of an older version has no room for what comes after it.
-fn act_in(image: &mut [u8], layout: Layout, port: u64, event: u64) -> u64 {
-    let mut held = Held::new(layout, image);
-    match admitted(&held, port, event) {
-        Ok(_) if !layout.is_present() => SHORT_ROOM,
-        Ok(admitted) => packed(carry_out(&mut held, admitted, event)),
-        Err(number) => number,
-    }
-}
-
-/// Puts an image, in the present version, at the start of `room`; none where that is too short.
-fn put<'a>(image: &[u8], layout: Layout, room: &'a mut [u8]) -> Option<&'a mut [u8]> {
-    let renewed = room.get_mut(..length(layout.d()))?;
-    if layout.is_present() {
-        renewed.copy_from_slice(image);
-    } else {
-        encode(&Held::new(layout, image), renewed);
-    }
-    Some(renewed)
+/// An event on the image of a good table of `d` ports.
+fn act_in(image: &mut [u8], d: usize, port: u64, event: u64) -> u64 {
+    packed(act(&mut Held::new(d, image), port, event))
 }

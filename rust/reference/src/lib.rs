@@ -1,4 +1,4 @@
-//! Document 01 with requests in plain Rust: the table of one lock, its events and costs, images and listings.
+//! Document 01 with requests in plain Rust: the table of one lock, its events and costs, images and listings.
 //!
 //! It is written from the documents alone, so that the proved engine can be compared with it. Nothing here is proved.
 
@@ -27,7 +27,7 @@ pub use image::{image, read, table, write};
 pub use layout::{length, LONGEST};
 pub use rules::{bad, rules, Rule};
 pub use steps::next;
-pub use table::{Copies, Port, Table, Word, FULL, ROOM};
+pub use table::{Copies, Port, Table, Word, ROOM};
 
 /// STATUS codes.
 pub mod status {
@@ -81,6 +81,4 @@ pub mod number {
     pub const SHORT_ROOM: u64 = 10;
     /// Length, version, D or contents of an image wrong.
     pub const BAD_IMAGE: u64 = 11;
-    /// S that would take a total above its greatest.
-    pub const FULL_COUNT: u64 = 12;
 }

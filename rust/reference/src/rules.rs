@@ -1,15 +1,13 @@
 //! Every rule of a good table with the field that it is charged to, the last of its fields in the image (request R-2).
 
 use crate::fault::Fault;
-use crate::fault::Field::{self, Copies, Port, Shared, Total, Work};
+use crate::fault::Field::{self, Copies, Port, Shared, Work};
 use crate::good::{beyond, good, in_range, room_empty, sound};
 use crate::layout::record::*;
-use crate::layout::shared::{ACTIVE, OWNER, TAKEN};
-use crate::layout::totals::{CACHED, DISTRIBUTED};
-use crate::layout::Layout;
+use crate::layout::{ACTIVE_PLACE, OWNER_PLACE, TAKEN_PLACE};
 use crate::points::{candidate_has, candidate_spin_has, named, own_spin_has, seen_has};
 use crate::status;
-use crate::table::{Table, FULL};
+use crate::table::Table;
 use crate::words::{Cell, Words};
 
 /// A rule as it stands in a table.
@@ -33,7 +31,7 @@ pub fn rules(t: &Table) -> Vec<Rule> {
     let mut all = vec![whole("D 1 to 64", in_range(t))];
     if in_range(t) {
         all.push(whole("room above D is 0", room_empty(t)));
-        all.extend(word_rules(t, Layout::present(t.d as usize)));
+        all.extend(word_rules(t));
     }
     all
 }
@@ -44,9 +42,9 @@ pub fn bad(t: &Table) -> Option<Fault> {
     (!good(t)).then(|| lowest(rules(t)))
 }
 
-/// The same for the words of ports below D, as they were read from an image: the places are its own.
-pub(crate) fn bad_words(words: &impl Words, layout: Layout) -> Option<Fault> {
-    (!sound(words)).then(|| lowest(word_rules(words, layout)))
+/// The same for the words of ports below D.
+pub(crate) fn bad_words(words: &impl Words) -> Option<Fault> {
+    (!sound(words)).then(|| lowest(word_rules(words)))
 }
 
 fn lowest(rules: Vec<Rule>) -> Fault {
@@ -56,19 +54,19 @@ fn lowest(rules: Vec<Rule>) -> Fault {
     lowest.expect("a table that isn't good breaks a rule")
 }
 
-/// The rules for the words of ports below D, with the places of an image.
-fn word_rules(words: &impl Words, layout: Layout) -> Vec<Rule> {
+/// The rules for the words of ports below D.
+fn word_rules(words: &impl Words) -> Vec<Rule> {
+    let d = words.d();
     let mut all = Vec::new();
     let mut rule = |name, holds, field: Field| {
-        let fault = field.fault(layout);
+        let fault = field.fault(d);
         all.push(Rule { name, holds, fault });
     };
     shared_rules(words, &mut rule);
-    for k in 0..words.d() {
+    for k in 0..d {
         port_rules(words, k, &mut rule);
         seen_rules(words, k, &mut rule);
         candidate_rules(words, k, &mut rule);
-        total_rules(words, k, &mut rule);
     }
     copy_rules(words, &mut rule);
     all
@@ -80,9 +78,9 @@ fn shared_rules(words: &impl Words, rule: &mut impl FnMut(&'static str, bool, Fi
     let (active, word) = (words.active(), words.word());
     let owner = word.owner as usize;
     let within = active & beyond(d) == 0;
-    rule("ACTIVE within D", within, Shared(ACTIVE));
-    rule("taken 0 or 1", word.taken <= 1, Shared(TAKEN));
-    rule("owner below D", owner < d, Shared(OWNER));
+    rule("ACTIVE within D", within, Shared(ACTIVE_PLACE));
+    rule("taken 0 or 1", word.taken <= 1, Shared(TAKEN_PLACE));
+    rule("owner below D", owner < d, Shared(OWNER_PLACE));
     if owner < d {
         let at_most = word.spin <= words.port(owner).made;
         rule("spin at most made", at_most, Port(owner, MADE));
@@ -147,18 +145,6 @@ fn candidate_rules(words: &impl Words, k: usize, rule: &mut impl FnMut(&'static 
             rule("candidate spin at most made", at_most, spin_field);
         }
     }
-}
-
-/// The totals of port `k`.
-fn total_rules(words: &impl Words, k: usize, rule: &mut impl FnMut(&'static str, bool, Field)) {
-    let p = words.port(k);
-    let mut at_most = |name, total, at| rule(name, total <= FULL, Total(k, at));
-    at_most("cached total at most 65,000", p.cached_total, CACHED);
-    at_most(
-        "distributed total at most 65,000",
-        p.distributed_total,
-        DISTRIBUTED,
-    );
 }
 
 /// Copy sets.

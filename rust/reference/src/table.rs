@@ -5,9 +5,6 @@ use crate::words::{Cell, Words, WordsMut};
 /// The most ports that a table has room for.
 pub const ROOM: usize = 64;
 
-/// The greatest total of costs (request R-3).
-pub const FULL: u16 = 65_000;
-
 /// The lock word. Its spin belongs to its owner.
 #[derive(Clone, Copy, Debug, Default, PartialEq, Eq)]
 pub struct Word {
@@ -44,10 +41,6 @@ pub struct Port {
     pub candidate: u8,
     /// Working value: candidate spin, one of the candidate's.
     pub candidate_spin: u16,
-    /// What the passage has cost so far in the cached model.
-    pub cached_total: u16,
-    /// What it has cost in the distributed model.
-    pub distributed_total: u16,
 }
 
 impl Port {
@@ -154,8 +147,10 @@ impl WordsMut for Table {
         self.ports[k] = port;
     }
 
-    fn renew(&mut self, cell: Cell, change: impl FnOnce(u64) -> u64) {
+    fn renew(&mut self, cell: Cell, change: impl FnOnce(u64) -> u64) -> u64 {
         let copies = self.set_of(cell);
-        *copies = change(*copies);
+        let before = *copies;
+        *copies = change(before);
+        before
     }
 }

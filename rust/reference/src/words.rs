@@ -39,8 +39,8 @@ pub(crate) trait WordsMut: Words {
     fn set_word(&mut self, word: Word);
     /// Puts port `k`.
     fn set_port(&mut self, k: usize, port: Port);
-    /// Changes the copy set of a word.
-    fn renew(&mut self, cell: Cell, change: impl FnOnce(u64) -> u64);
+    /// Changes the copy set of a word; gives what it was.
+    fn renew(&mut self, cell: Cell, change: impl FnOnce(u64) -> u64) -> u64;
 
     /// Takes over every word of another lock with as many ports.
     fn set_all(&mut self, from: &impl Words) {

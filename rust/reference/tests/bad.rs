@@ -1,13 +1,10 @@
 //! What is bad (request R-2): every rule with its field, kind, port and place by hand, and the lowest place of several.
 
-mod shapes;
-
 use reference::number::{BAD_TABLE, DONE};
 use reference::order::ENTER;
 use reference::{
     bad, boundary, event, good, image, in_place, read, rules, write, Fault, Table, ROOM,
 };
-use shapes::SHAPES;
 
 /// A good table of `d` ports that have two spins each; port `k` is at `point`.
 fn at(d: u8, k: usize, point: u8) -> Table {
@@ -39,68 +36,65 @@ type Told = (u64, u64, u64);
 /// The point of a port, a change there, and what is bad then.
 type Case = (u8, Change, Told);
 
-/// Every rule at D = 5, port 2: the record of port k is at 30 + 16 k, the copy sets are from 110 on, two bytes each, and
-/// the totals of port k are at 144 + 4 k.
-const CASES: [Case; 34] = [
-    (0, |t, _| t.active = 1 << 5, (1, 5, 18)),
-    (0, |t, _| t.word.taken = 2, (1, 5, 26)),
-    (0, |t, _| t.word.owner = 5, (1, 5, 27)),
-    (0, |t, _| (t.word.owner, t.word.spin) = (4, 3), (2, 4, 98)),
-    (0, |t, k| t.ports[k].point = 7, (2, 2, 62)),
-    (6, |t, k| t.active = 1 << k, (2, 2, 62)),
-    (15, |t, _| t.active = 0, (2, 2, 62)),
-    (0, |t, k| t.ports[k].status = 4, (2, 2, 63)),
-    (1, |t, k| t.ports[k].flag = 2, (2, 2, 64)),
-    (0, |t, k| t.ports[k].flag = 1, (2, 2, 64)),
-    (0, |t, k| t.ports[k].value = 2, (2, 2, 65)),
+/// Every rule at D = 5, port 2: the record of port k is at 26 + 16 k, the copy sets are from 106 on, two bytes each.
+const CASES: [Case; 32] = [
+    (0, |t, _| t.active = 1 << 5, (1, 5, 14)),
+    (0, |t, _| t.word.taken = 2, (1, 5, 22)),
+    (0, |t, _| t.word.owner = 5, (1, 5, 23)),
+    (0, |t, _| (t.word.owner, t.word.spin) = (4, 3), (2, 4, 94)),
+    (0, |t, k| t.ports[k].point = 7, (2, 2, 58)),
+    (6, |t, k| t.active = 1 << k, (2, 2, 58)),
+    (15, |t, _| t.active = 0, (2, 2, 58)),
+    (0, |t, k| t.ports[k].status = 4, (2, 2, 59)),
+    (1, |t, k| t.ports[k].flag = 2, (2, 2, 60)),
+    (0, |t, k| t.ports[k].flag = 1, (2, 2, 60)),
+    (0, |t, k| t.ports[k].value = 2, (2, 2, 61)),
     (
         0,
         |t, k| (t.ports[k].made, t.ports[k].value) = (0, 1),
-        (2, 2, 66),
+        (2, 2, 62),
     ),
-    (0, |t, k| t.ports[k].go = 3, (2, 2, 68)),
-    (8, |t, k| t.ports[k].own_spin = 3, (3, 2, 70)),
-    (0, |t, k| t.ports[k].own_spin = 1, (3, 2, 70)),
-    (21, |t, k| t.ports[k].seen_owner = 5, (3, 2, 72)),
-    (20, |t, k| t.ports[k].seen_owner = 1, (3, 2, 72)),
-    (20, |t, k| t.ports[k].seen_spin = 1, (3, 2, 73)),
-    (25, |t, k| t.ports[k].seen_spin = 0, (3, 2, 73)),
+    (0, |t, k| t.ports[k].go = 3, (2, 2, 64)),
+    (8, |t, k| t.ports[k].own_spin = 3, (3, 2, 66)),
+    (0, |t, k| t.ports[k].own_spin = 1, (3, 2, 66)),
+    (21, |t, k| t.ports[k].seen_owner = 5, (3, 2, 68)),
+    (20, |t, k| t.ports[k].seen_owner = 1, (3, 2, 68)),
+    (20, |t, k| t.ports[k].seen_spin = 1, (3, 2, 69)),
+    (25, |t, k| t.ports[k].seen_spin = 0, (3, 2, 69)),
     // Made of a port whose record comes later stands after the spin; of the port itself and of those before, not.
     (
         21,
         |t, k| (t.ports[k].seen_owner, t.ports[k].seen_spin) = (3, 3),
-        (2, 3, 82),
+        (2, 3, 78),
     ),
     (
         21,
         |t, k| (t.ports[k].seen_owner, t.ports[k].seen_spin) = (2, 3),
-        (3, 2, 73),
+        (3, 2, 69),
     ),
-    (22, |t, k| t.ports[k].candidate = 5, (3, 2, 75)),
-    (21, |t, k| t.ports[k].candidate = 1, (3, 2, 75)),
-    (22, |t, k| t.ports[k].candidate_spin = 1, (3, 2, 76)),
+    (22, |t, k| t.ports[k].candidate = 5, (3, 2, 71)),
+    (21, |t, k| t.ports[k].candidate = 1, (3, 2, 71)),
+    (22, |t, k| t.ports[k].candidate_spin = 1, (3, 2, 72)),
     (
         23,
         |t, k| (t.ports[k].candidate, t.ports[k].candidate_spin) = (4, 3),
-        (2, 4, 98),
+        (2, 4, 94),
     ),
     (
         23,
         |t, k| (t.ports[k].candidate, t.ports[k].candidate_spin) = (1, 3),
-        (3, 2, 76),
+        (3, 2, 72),
     ),
-    (0, |t, _| t.active_copies = 1 << 5, (4, 5, 110)),
-    (0, |t, _| t.word_copies = 1 << 15, (4, 5, 112)),
-    (0, |t, k| t.copies[k].status = 1 << 5, (4, 2, 126)),
-    (0, |t, k| t.copies[k].go = 1 << 5, (4, 2, 128)),
-    (0, |t, k| t.copies[k].spin = 1 << 5, (4, 2, 130)),
+    (0, |t, _| t.active_copies = 1 << 5, (4, 5, 106)),
+    (0, |t, _| t.word_copies = 1 << 15, (4, 5, 108)),
+    (0, |t, k| t.copies[k].status = 1 << 5, (4, 2, 122)),
+    (0, |t, k| t.copies[k].go = 1 << 5, (4, 2, 124)),
+    (0, |t, k| t.copies[k].spin = 1 << 5, (4, 2, 126)),
     (
         0,
         |t, k| (t.ports[k].made, t.copies[k].spin) = (0, 1),
-        (4, 2, 130),
+        (4, 2, 126),
     ),
-    (0, |t, k| t.ports[k].cached_total = 65_001, (2, 2, 152)),
-    (0, |t, k| t.ports[k].distributed_total = 65_001, (2, 2, 154)),
 ];
 
 #[test]
@@ -177,52 +171,33 @@ fn the_lowest_place_decides() {
         }
     }
     assert!(pairs > 1_000, "only {pairs} pairs");
-    // A copy set of port 0 stands after every record, and a shared one before those of ports; totals come last.
+    // A copy set of port 0 stands after every record, and a shared one before those of ports.
     let mut t = at(5, 4, 23);
     t.copies[0].status = 1 << 9;
     t.word_copies = 1 << 9;
-    t.ports[0].cached_total = 65_001;
-    assert_eq!(told(&t), (4, 5, 112));
+    assert_eq!(told(&t), (4, 5, 108));
     t.ports[4].candidate_spin = 3;
-    assert_eq!(told(&t), (3, 4, 30 + 64 + 14));
+    assert_eq!(told(&t), (3, 4, 26 + 64 + 14));
     t.ports[4].status = 9;
-    assert_eq!(told(&t), (2, 4, 30 + 64 + 1));
+    assert_eq!(told(&t), (2, 4, 26 + 64 + 1));
     t.ports[1].own_spin = 1;
-    assert_eq!(told(&t), (3, 1, 30 + 16 + 8));
+    assert_eq!(told(&t), (3, 1, 26 + 16 + 8));
     t.word.owner = 9;
-    assert_eq!(told(&t), (1, 5, 27));
-}
-
-/// Version 1 has no totals, and an entry less in its contents.
-#[test]
-fn places_of_version_1() {
-    for (point, change, (kind, port, place)) in CASES {
-        let mut t = at(5, 2, point);
-        change(&mut t, 2);
-        let bytes = SHAPES[0].of(&image(&t));
-        let answer = match place {
-            144.. => DONE,
-            _ => BAD_TABLE | kind << 8 | port << 16 | (place - 4) << 24,
-        };
-        assert_eq!(read(&bytes).0, answer);
-        assert_eq!(in_place::check(&bytes), answer);
-    }
+    assert_eq!(told(&t), (1, 5, 23));
 }
 
 #[test]
-fn places_of_version_4() {
-    let cases: [(Change, Told); 8] = [
+fn places_of_version_2() {
+    let cases: [(Change, Told); 6] = [
         (
             |t, _| t.ports[16].candidate_spin = 1,
-            (3, 16, 30 + 256 + 14),
+            (3, 16, 26 + 256 + 14),
         ),
-        (|t, _| t.active = 1 << 17, (1, 17, 18)),
-        (|t, _| t.active_copies = 1 << 17, (4, 17, 302)),
-        (|t, _| t.word_copies = 1 << 63, (4, 17, 310)),
-        (|t, _| t.copies[0].status = 1 << 17, (4, 0, 318)),
-        (|t, _| t.copies[16].spin = 1 << 17, (4, 16, 718)),
-        (|t, _| t.ports[0].cached_total = u16::MAX, (2, 0, 726)),
-        (|t, _| t.ports[16].distributed_total = 65_001, (2, 16, 792)),
+        (|t, _| t.active = 1 << 17, (1, 17, 14)),
+        (|t, _| t.active_copies = 1 << 17, (4, 17, 298)),
+        (|t, _| t.word_copies = 1 << 63, (4, 17, 306)),
+        (|t, _| t.copies[0].status = 1 << 17, (4, 0, 314)),
+        (|t, _| t.copies[16].spin = 1 << 17, (4, 16, 714)),
     ];
     for (change, want) in cases {
         let mut t = at(17, 3, 1);
@@ -232,8 +207,8 @@ fn places_of_version_4() {
     let mut t = at(64, 63, 1);
     t.ports[63].made = 0;
     t.copies[63].spin = 1;
-    assert_eq!(told(&t), (4, 63, 2598));
-    assert_eq!(image(&t).len(), 2862);
+    assert_eq!(told(&t), (4, 63, 2594));
+    assert_eq!(image(&t).len(), 2602);
 }
 
 #[test]

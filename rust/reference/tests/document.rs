@@ -1,8 +1,10 @@
-//! The sample lines of document 01, with the room of request R-1.
+//! The sample lines of document 01, with the room and the images of request R-1.
 
 use reference::number::*;
 use reference::order::*;
-use reference::{event, fresh, listing::listing, next, write, Table};
+use reference::{
+    boundary, event, fresh, in_place, listing::listing, next, read, write, Table, LONGEST,
+};
 
 /// Steps port `port` to `point`: how many steps, and their costs.
 fn walk(t: &mut Table, port: u64, point: u8) -> (u64, u64, u64) {
@@ -60,7 +62,7 @@ fn the_lowest_refusal_is_given() {
     t.word.taken = 2;
     let bad = t;
     // 1.1, D, and the byte of taken.
-    let answer = BAD_TABLE | 1 << 8 | 2 << 16 | 26 << 24;
+    let answer = BAD_TABLE | 1 << 8 | 2 << 16 | 22 << 24;
     assert_eq!(event(&mut t, 2, 6), (answer, 0, 0));
     assert_eq!(t, bad);
     assert_eq!(write(&t, &mut []), (answer, 0));
@@ -100,5 +102,90 @@ fn a_run_does_not_depend_on_the_pieces() {
         run.finish(&mut out);
         assert_eq!(out, listing(input));
         assert!(run.over());
+    }
+}
+
+/// Version and length of the image of `d` ports, as the documents have them.
+fn form(d: u64) -> (u8, u64) {
+    match d {
+        1..=16 => (1, 30 + 22 * d),
+        _ => (2, 42 + 40 * d),
+    }
+}
+
+#[test]
+fn images_have_the_named_lengths() {
+    let mut room = [0xAA; LONGEST + 1];
+    for d in 1..=64 {
+        let (_, t) = fresh(d);
+        room.fill(0xAA);
+        let (number, length) = write(&t, &mut room);
+        assert_eq!(number, DONE);
+        assert_eq!((room[0], length as u64), form(d));
+        assert!(room[length..].iter().all(|b| *b == 0xAA));
+        assert_eq!(read(&room[..length]), (DONE, t));
+        assert_eq!(read(&room[..length + 1]), (BAD_IMAGE, fresh(1).1));
+        assert_eq!(read(&room[..length - 1]), (BAD_IMAGE, fresh(1).1));
+        let mut short = vec![0x55; length - 1];
+        assert_eq!(write(&t, &mut short), (SHORT_ROOM, 0));
+        assert!(short.iter().all(|b| *b == 0x55));
+    }
+    assert_eq!(LONGEST, 2602);
+    assert_eq!(read(&[]), (BAD_IMAGE, fresh(1).1));
+}
+
+/// The image of a fresh table of `d` ports with copy sets of `width` bytes: head, and zeros.
+fn fresh_image(version: u8, d: u8, width: u16) -> Vec<u8> {
+    let (ports, sets) = (16 * u16::from(d), (2 + 3 * u16::from(d)) * width);
+    let mut bytes = vec![version, d];
+    for number in [14, 12, 26, ports, 26 + ports, sets] {
+        bytes.extend(number.to_le_bytes());
+    }
+    bytes.resize(usize::from(26 + ports + sets), 0);
+    bytes
+}
+
+#[test]
+fn a_version_goes_with_its_numbers_of_ports() {
+    for d in 0..=u8::MAX {
+        for version in 0..=3 {
+            for width in [2, 8] {
+                let named = matches!((version, d, width), (1, 1..=16, 2) | (2, 17..=64, 8));
+                let number = if named { DONE } else { BAD_IMAGE };
+                let bytes = fresh_image(version, d, width);
+                let what = format!("version {version}, D = {d}, sets of {width} bytes");
+                assert_eq!(read(&bytes).0, number, "{what}");
+                assert_eq!(in_place::check(&bytes), number, "{what}");
+            }
+        }
+    }
+}
+
+#[test]
+fn the_image_after_an_event_goes_into_another_room() {
+    type Into = fn(&[u8], &mut [u8], u64, u64) -> u64;
+    for event_into in [boundary::event_into as Into, in_place::event_into] {
+        for d in [2, 17] {
+            let image = fresh_image(form(d).0, d as u8, if d == 2 { 2 } else { 8 });
+            let mut after = image.clone();
+            assert_eq!(boundary::event(&mut after, 1, ENTER), DONE);
+            for more in [0, 1, 9] {
+                let mut next = vec![0xAA; image.len() + more];
+                assert_eq!(event_into(&image, &mut next, 1, ENTER), DONE);
+                assert_eq!(next[..image.len()], after);
+                assert_eq!(next[image.len()..], vec![0xAA; more]);
+            }
+            // The image's refusals come first, then the event's, and then that of the room.
+            let short = image.len() - 1;
+            for (bytes, event, number) in [
+                (&image[1..], STEP, BAD_IMAGE),
+                (&image[..], STEP, IDLE),
+                (&image[..], ENTER, SHORT_ROOM),
+            ] {
+                let mut next = vec![0xAA; short];
+                assert_eq!(event_into(bytes, &mut next, 1, event), number);
+                assert_eq!(next, vec![0xAA; short]);
+            }
+        }
     }
 }

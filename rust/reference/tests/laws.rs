@@ -1,6 +1,5 @@
-//! What documents 01 and 02 say of every table from a fresh one, looked at in random schedules.
+//! What document 01 says of every table from a fresh one, looked at in random schedules.
 
-use reference::number::DONE;
 use reference::order::*;
 use reference::{event, fresh, good, status, Table, ROOM};
 
@@ -19,7 +18,7 @@ fn choose(random: u64, t: &Table, port: u64) -> u64 {
 }
 
 #[test]
-fn exclusion_good_tables_totals_and_the_passage_limit() {
+fn exclusion_good_tables_and_the_passage_limit() {
     let mut seed = 0x2545_F491_4F6C_DD1Du64;
     let mut dearest = (0, 0);
     for d in (1..=17).chain([33, 63, 64]) {
@@ -31,16 +30,13 @@ fn exclusion_good_tables_totals_and_the_passage_limit() {
             seed ^= seed << 17;
             let port = (seed >> 40) % d;
             let order = choose(seed >> 20, &t, port);
-            let (number, cached, distributed) = event(&mut t, port, order);
+            let (_, cached, distributed) = event(&mut t, port, order);
             let passage = &mut spent[port as usize];
-            if number == DONE && matches!(order, ENTER | CRASH) {
+            if matches!(order, ENTER | CRASH) {
                 *passage = (0, 0);
             }
             *passage = (passage.0 + cached, passage.1 + distributed);
             dearest = (dearest.0.max(passage.0), dearest.1.max(passage.1));
-            let p = t.ports[port as usize];
-            let totals = (u64::from(p.cached_total), u64::from(p.distributed_total));
-            assert_eq!(totals, *passage);
             let inside = t.ports.iter().filter(|p| p.status == status::CS).count();
             assert!(inside <= 1);
             assert!(good(&t));

@@ -161,7 +161,7 @@ fn own_bit_at_6_and_15() {
 
 #[test]
 fn room_above_d_is_0() {
-    let changes: [fn(&mut Table, usize); 16] = [
+    let changes: [fn(&mut Table, usize); 14] = [
         |t, k| t.ports[k].point = 1,
         |t, k| t.ports[k].status = 1,
         |t, k| t.ports[k].flag = 1,
@@ -173,8 +173,6 @@ fn room_above_d_is_0() {
         |t, k| t.ports[k].seen_spin = 1,
         |t, k| t.ports[k].candidate = 1,
         |t, k| t.ports[k].candidate_spin = 1,
-        |t, k| t.ports[k].cached_total = 1,
-        |t, k| t.ports[k].distributed_total = 1,
         |t, k| t.copies[k].status = 1,
         |t, k| t.copies[k].go = 1,
         |t, k| t.copies[k].spin = 1,
@@ -279,7 +277,7 @@ fn a_bad_table_is_refused_and_stays() {
         let before = t;
         for order in 0..=6 {
             // 1.2 at port 2, whose STATUS is the second byte of its record.
-            let answer = BAD_TABLE | 2 << 8 | 2 << 16 | (30 + 32 + 1) << 24;
+            let answer = BAD_TABLE | 2 << 8 | 2 << 16 | (26 + 32 + 1) << 24;
             assert_eq!(event(&mut t, 2, order), (answer, 0, 0));
             assert_eq!(t, before);
         }
@@ -311,7 +309,7 @@ fn every_event_at_every_point_keeps_the_table_good() {
 }
 
 #[test]
-fn a_crash_keeps_all_but_point_working_values_and_totals() {
+fn a_crash_keeps_all_but_point_and_working_values() {
     let mut t = at(23);
     t.ports[2].flag = 1;
     t.ports[2].status = 3;
@@ -322,8 +320,6 @@ fn a_crash_keeps_all_but_point_working_values_and_totals() {
     t.ports[2].seen_spin = 1;
     t.ports[2].candidate = 3;
     t.ports[2].candidate_spin = 1;
-    t.ports[2].cached_total = 5;
-    t.ports[2].distributed_total = 6;
     t.active = 0b110;
     t.active_copies = 0b101;
     t.copies[2].spin = 0b11;
@@ -334,8 +330,6 @@ fn a_crash_keeps_all_but_point_working_values_and_totals() {
     want.ports[2].seen_spin = 0;
     want.ports[2].candidate = 0;
     want.ports[2].candidate_spin = 0;
-    want.ports[2].cached_total = 0;
-    want.ports[2].distributed_total = 0;
     assert_eq!(event(&mut t, 2, CRASH), (DONE, 0, 0));
     assert_eq!(t, want);
 }
@@ -364,7 +358,7 @@ fn a_failed_swap_takes_all_copies() {
     assert_eq!((t.word.taken, t.word_copies), (0, 0b100));
 }
 
-/// A good table of seventeen ports, the fewest of version 4.
+/// A good table of seventeen ports, the fewest of version 2.
 fn seventeen() -> Table {
     let mut t = at(23);
     t.d = 17;
@@ -403,7 +397,7 @@ fn damaged(image: &[u8], place: usize) {
         }
         BAD_TABLE | BAD_IMAGE => {
             assert_eq!(table, fresh(1).1);
-            assert_eq!(answer == BAD_IMAGE, place < 18);
+            assert_eq!(answer == BAD_IMAGE, place < 14);
         }
         number => panic!("number {number}"),
     }

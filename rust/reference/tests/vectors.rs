@@ -1,8 +1,6 @@
-//! The vectors of images and events that the program `vectors` runs too, and the schedules and examples, made by an
-//! independent implementation of documents 01 and 02.
+//! The vectors of images and events that the program `vectors` runs too, and the schedules and examples, made by an independent implementation of document 01.
 
-use reference::number::DONE;
-use reference::{boundary, event, image, in_place, listing::listing, packed, read, table, LONGEST};
+use reference::{event, image, in_place, listing::listing, packed, read, table};
 use std::fs;
 use std::path::PathBuf;
 
@@ -91,15 +89,6 @@ fn images() {
         assert!(is(got, answer), "{line}");
         assert_eq!(image(&table), last(after, &before), "{line}");
         assert_eq!(in_place::check(&before), got, "{line}");
-        for renew in [boundary::renew, in_place::renew] {
-            let mut room = [0; LONGEST];
-            let answer = renew(&before, &mut room);
-            assert_eq!(answer & 255, got & 255, "{line}");
-            if got == DONE {
-                let length = (answer >> 8) as usize;
-                assert_eq!(&room[..length], image(&table), "{line}");
-            }
-        }
         count += 1;
     }
     assert!(count > 200, "only {count} vectors");

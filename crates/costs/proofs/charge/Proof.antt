@@ -1,4 +1,5 @@
-use Rattle.std.proofs.Common.{◌%◌, rules}
+use borrow.Author.Rules.{rules}
+use Prim.Native.Nat.{◌%◌}
 use Rattle.costs.specs.Single.{charge-fee}
 use Rattle.costs.proofs.charge.Statement.{statement}
 use Rattle.costs.proofs.charge.Tie as tie

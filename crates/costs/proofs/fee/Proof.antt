@@ -1,4 +1,4 @@
-use Rattle.std.proofs.Common.{rules}
+use borrow.Author.Rules.{rules}
 use Rattle.model.specs.Parts.Charges.{fee_of}
 use Rattle.costs.proofs.fee.Statement.{statement}
 use Rattle.costs.proofs.fee.Tie as tie

@@ -1,4 +1,4 @@
-use Rattle.std.proofs.Common.{rules}
+use borrow.Author.Rules.{rules}
 use Rattle.costs.proofs.put_copies.Statement.{statement}
 use Rattle.costs.proofs.put_copies.Tie as tie
 

@@ -1,4 +1,4 @@
-use Rattle.std.proofs.Common.{eq-eqb, ne_eqb}
+use borrow.Author.Tests.{eq-eqb, ne_eqb}
 use Rattle.costs.proofs.remote.Statement.{statement}
 use Rattle.costs.proofs.remote.Tie as tie
 

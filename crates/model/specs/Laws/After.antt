@@ -16,7 +16,7 @@ use Rattle.model.specs.Points.{settled}
 use Rattle.model.specs.Good.{good}
 use Rattle.model.specs.Step.{with_value}
 use Rattle.model.specs.Parts.Charges.{home, charge, old, put_shared}
-use Rattle.model.specs.Parts.Steps.{touch_of, home_of, move_of, shared_after, charge_of, marks, marked, own_left, stepped}
+use Rattle.model.specs.Parts.Steps.{touch_of, home_of, move_of, shared_after, charge_of, marks, marked, stepped}
 use Rattle.model.specs.Run.{Order, after}
 use Rattle.model.specs.Laws.Tests.{split}
 use Rattle.model.specs.Laws.Rules.{port-rules}
@@ -44,7 +44,7 @@ pub step-sized : (t : Table) (k : ℕ) → Sized t → Sized (stepped t k).table
 unfolding stepped
 step-sized t k s =
     record {
-      ports = length_marked t k (set t.ports k (own_left t k)) ∙ length-set t.ports k (own_left t k) ∙ s.ports;
+      ports = length_marked t k (set t.ports k (settled (move_of t k).own)) ∙ length-set t.ports k (settled (move_of t k).own) ∙ s.ports;
       copies = length-set t.copies (home_of t k) (charge_of t k).copies ∙ s.copies;
     }
 

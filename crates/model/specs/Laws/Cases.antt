@@ -1,30 +1,28 @@
 -- What an order does to a table, in three cases: it is refused, it is an event that is no step, or it is a step.
-use Rattle.std.specs.Prelude.{◌≡◌, Bool, cond, not, ◌&&◌, List, [], ◌∷◌, ℕ, zero, suc, ◌≤◌, ◌<◌, eqb, leb, ltb, get_or}
-use Rattle.std.proofs.Math.Path.{refl, ap, subst}
-use Rattle.std.proofs.Common.{sym, ◌∙◌, true≢false, arith}
+use Rattle.std.specs.Prelude.{◌≡◌, Bool, cond, not, ◌&&◌, List, [], ◌∷◌, ℕ, zero, suc, ◌≤◌, ◌<◌, eqb, leb, get_or}
+use Rattle.std.proofs.Math.Path.{refl, ap}
+use Rattle.std.proofs.Common.{sym, ◌∙◌, subst, true≢false, arith}
 use Rattle.std.proofs.Math.Bool.{true, false, and-eq-true_iff}
 use Rattle.std.proofs.Math.Nat.{le_trans}
-use borrow.Author.Tests.{leb-true, leb-false, ltb-false, eqb-true, eqb-false, eq-eqb, not-true, not-false}
-use Rattle.model.specs.declared.Totals.{Totals}
+use borrow.Author.Tests.{leb-true, leb-false, eqb-true, eqb-false, eq-eqb, not-true, not-false}
 use Rattle.model.specs.declared.Port.{Port}
 use Rattle.model.specs.declared.Table.{Table}
 use Rattle.model.specs.declared.Answer.{Answer}
 use Rattle.model.specs.declared.Answer.TheVariants.{Done, BadTable, NoSuchPort}
-use Rattle.model.specs.Table.{room, most, fullest, no_work, no_totals, port_at, put_port}
+use Rattle.model.specs.Table.{room, most, no_work, port_at, put_port}
 use Rattle.model.specs.Good.{good, bad_in}
 use Rattle.model.specs.Cost.{free}
-use Rattle.model.specs.Step.{at, with_flag, with_work, with_totals}
-use Rattle.model.specs.Event.{number_of, enter, stepping, crash, call_off, leave, step_of, raised, first_of, refusals, refusal, ordered, event}
-use Rattle.model.specs.Parts.Steps.{own_left, stepped}
+use Rattle.model.specs.Step.{at, with_flag, with_work}
+use Rattle.model.specs.Event.{number_of, enter, stepping, crash, call_off, leave, first_of, refusals, refusal, ordered, event}
+use Rattle.model.specs.Parts.Steps.{stepped}
 use Rattle.model.specs.Run.{Order, order, answered, after}
-use Rattle.model.specs.Laws.Stepped.{carried-parts, raised-parts}
-use Rattle.model.specs.Laws.Tests.{neither}
+use Rattle.model.specs.Laws.Stepped.{carried-parts}
 use Rattle.model.specs.Laws.Rules.{shared-rules}
 
 -- an event that is no step and is not refused at port p, with what becomes of the port
 pub data Allowed (e : ℕ) (p : Port) : Type 0 where
-  enters : e ≡ enter → p.point ≡ 0 → (p.made ≡ most → ⊥) → ordered e p ≡ at 1 (with_totals no_totals p) → Allowed e p
-  crashes : e ≡ crash → (p.point ≡ 0 → ⊥) → ordered e p ≡ at 1 (with_totals no_totals (with_work no_work p)) → Allowed e p
+  enters : e ≡ enter → p.point ≡ 0 → (p.made ≡ most → ⊥) → ordered e p ≡ at 1 p → Allowed e p
+  crashes : e ≡ crash → (p.point ≡ 0 → ⊥) → ordered e p ≡ at 1 (with_work no_work p) → Allowed e p
   calls_off : e ≡ call_off → (p.point ≡ 0 → ⊥) → ordered e p ≡ with_flag 1 p → Allowed e p
   leaves : e ≡ leave → p.point ≡ 11 → ordered e p ≡ at 13 p → Allowed e p
 
@@ -55,8 +53,6 @@ pub record Stepped (t : Table) (o : Order) : Type 0 where
   pub busy : (port_at t o.port).point ≡ 0 → ⊥
   pub outside : (port_at t o.port).point ≡ 11 → ⊥
   pub unworn : (port_at t o.port).point ≡ 4 → (port_at t o.port).made ≡ most → ⊥
-  pub cached : (own_left t o.port).totals.cached ≤ fullest
-  pub distributed : (own_left t o.port).totals.distributed ≤ fullest
   pub outcome : answered t o ≡ stepped t o.port
   pub table : after t o ≡ (stepped t o.port).table
   pub answer : (answered t o).answer ≡ Done
@@ -86,48 +82,33 @@ unpassed (r ∷ rs) e q i =
     go false a e q (suc i) below = below q i
 
 -- what the refusals leave of an event that is no step, and of a step
-Unrefused : ℕ → Port → Totals → Type 0
-Unrefused e p s = (i : ℕ) → (get_or (refusals e p s) i (false, Done)).0 ≡ false
+Unrefused : ℕ → Port → Type 0
+Unrefused e p = (i : ℕ) → (get_or (refusals e p) i (false, Done)).0 ≡ false
 
-allowed : (e : ℕ) (p : Port) (s : Totals) → Unrefused e p s → eqb e stepping ≡ false → Allowed e p
+allowed : (e : ℕ) (p : Port) → Unrefused e p → eqb e stepping ≡ false → Allowed e p
 unfolding Unrefused refusals ordered
-allowed zero p s h n = absurd (true≢false (h 0))
-allowed (suc zero) p s h n =
+allowed zero p h n = absurd (true≢false (h 0))
+allowed (suc zero) p h n =
     let idle = not-false (eqb p.point 0) (h 1) in
     enters refl (eqb-true _ _ idle) (eqb-false _ _ (rw idle at (h 2))) refl
-allowed (suc (suc zero)) p s h n = absurd (true≢false n)
-allowed (suc (suc (suc zero))) p s h n = crashes refl (eqb-false _ _ (h 4)) refl
-allowed (suc (suc (suc (suc zero)))) p s h n = calls_off refl (eqb-false _ _ (h 4)) refl
-allowed (suc (suc (suc (suc (suc zero))))) p s h n = leaves refl (eqb-true _ _ (not-false _ (h 3))) refl
-allowed (suc (suc (suc (suc (suc (suc e)))))) p s h n =
+allowed (suc (suc zero)) p h n = absurd (true≢false n)
+allowed (suc (suc (suc zero))) p h n = crashes refl (eqb-false _ _ (h 4)) refl
+allowed (suc (suc (suc (suc zero)))) p h n = calls_off refl (eqb-false _ _ (h 4)) refl
+allowed (suc (suc (suc (suc (suc zero))))) p h n = leaves refl (eqb-true _ _ (not-false _ (h 3))) refl
+allowed (suc (suc (suc (suc (suc (suc e)))))) p h n =
     let known = ((and-eq-true_iff (leb 1 (suc (suc (suc (suc (suc (suc e))))))) _).0 (not-false _ (h 0))).1 in
     let below : suc (suc (suc (suc (suc (suc e))))) ≤ 5 = leb-true _ _ known in
     absurd (omega arith)
 
--- a port, and its totals after its step, as a step that is not refused finds them
-record Steps (p : Port) (s : Totals) : Type 0 where
-  busy : p.point ≡ 0 → ⊥
-  outside : p.point ≡ 11 → ⊥
-  unworn : p.point ≡ 4 → p.made ≡ most → ⊥
-  cached : s.cached ≤ fullest
-  distributed : s.distributed ≤ fullest
-
-steps : (p : Port) (s : Totals) → Unrefused stepping p s → Steps p s
+steps : (p : Port) → Unrefused stepping p
+    → (p.point ≡ 0 → ⊥) × (p.point ≡ 11 → ⊥) × (p.point ≡ 4 → p.made ≡ most → ⊥)
 unfolding Unrefused refusals
-steps p s h =
-    let full = neither (ltb fullest s.cached) (ltb fullest s.distributed) (h 6) in
-    record {
-      busy = eqb-false _ _ (h 4);
-      outside = eqb-false _ _ (h 5);
-      unworn = λ q. eqb-false _ _ (rw (eq-eqb p.point 4 q) at (h 2));
-      cached = ltb-false _ _ full.0;
-      distributed = ltb-false _ _ full.1;
-    }
+steps p h = (eqb-false _ _ (h 4), eqb-false _ _ (h 5), λ q. eqb-false _ _ (rw (eq-eqb p.point 4 q) at (h 2)))
 
 -- a step that no refusal stands against is not worn
-pub unrefused-step : (p : Port) (s : Totals) → number_of (first_of (refusals stepping p s)) ≡ 0 → p.point ≡ 4 → p.made ≡ most → ⊥
+pub unrefused-step : (p : Port) → number_of (first_of (refusals stepping p)) ≡ 0 → p.point ≡ 4 → p.made ≡ most → ⊥
 unfolding Unrefused refuses refusals
-unrefused-step p s e = (steps p s (unpassed (refusals stepping p s) refl e)).unworn
+unrefused-step p e = (steps p (unpassed (refusals stepping p) refl e)).2
 
 module _ (t : Table) (o : Order) where
   -- what an order answers, by two tests: there is no refusal, the event is a step
@@ -150,17 +131,11 @@ module _ (t : Table) (o : Order) where
       }
 
   unrefused : eqb (number_of (refusal t o.port o.event)) 0 ≡ true
-      → (good t ≡ true) × (o.port < t.shared.d) × Unrefused o.event (port_at t o.port) (own_left t o.port).totals
+      → (good t ≡ true) × (o.port < t.shared.d) × Unrefused o.event (port_at t o.port)
   unfolding refusal refuses refusals Unrefused
   unrefused e =
-      let k = o.port in
-      let h =
-      unpassed ((not (good t), BadTable (bad_in t)) ∷ (leb t.shared.d k, NoSuchPort)
-      ∷ refusals o.event (port_at t k) (raised (port_at t k).totals (step_of t k))) refl (eqb-true _ _ e) in (
-        not-false _ (h 0),
-        leb-false _ _ (h 1),
-        subst (λ (s : Totals). Unrefused o.event (port_at t k) s) (raised-parts t k) (λ i. h (suc (suc i))),
-      )
+      let h = unpassed ((not (good t), BadTable (bad_in t)) ∷ (leb t.shared.d o.port, NoSuchPort) ∷ refusals o.event (port_at t o.port)) refl (eqb-true _ _ e) in
+      (not-false _ (h 0), leb-false _ _ (h 1), λ i. h (suc (suc i)))
 
   -- every order is one of the three
   by_tests : (r s : Bool) → eqb (number_of (refusal t o.port o.event)) 0 ≡ r → eqb o.event stepping ≡ s → Case t o
@@ -174,7 +149,7 @@ module _ (t : Table) (o : Order) where
         sound = u.0;
         port = u.1;
         fits = le_trans u.1 (shared-rules t u.0).fits;
-        allowed = allowed o.event (port_at t o.port) _ u.2 es;
+        allowed = allowed o.event (port_at t o.port) u.2 es;
         table = ap (λ u. u.table) q;
         cached = ap (λ u. u.cached) q;
         distributed = ap (λ u. u.distributed) q;
@@ -184,18 +159,16 @@ module _ (t : Table) (o : Order) where
       let q = shape true true er es in
       let u = unrefused er in
       let e : o.event ≡ stepping = eqb-true _ _ es in
-      let can = steps (port_at t o.port) _ (subst (λ (n : ℕ). Unrefused n (port_at t o.port) (own_left t o.port).totals) e u.2) in
+      let can = steps (port_at t o.port) (subst (λ (n : ℕ). Unrefused n (port_at t o.port)) e u.2) in
       was_stepped
       (record {
         sound = u.0;
         event = e;
         port = u.1;
         fits = le_trans u.1 (shared-rules t u.0).fits;
-        busy = can.busy;
-        outside = can.outside;
-        unworn = can.unworn;
-        cached = can.cached;
-        distributed = can.distributed;
+        busy = can.0;
+        outside = can.1;
+        unworn = can.2;
         outcome = q;
         table = ap (λ u. u.table) q;
         answer = ap (λ u. u.answer) q;

@@ -9,10 +9,10 @@ use Rattle.model.specs.declared.Table.{Table}
 use Rattle.model.specs.Table.{room, port_at, Sized}
 use Rattle.model.specs.Points.{Tens, two, three, four, Point, none, p0, p1, p2, p3, p4, p5, p6, p8, p9, p10, p11, p12, p13, p14, p15, p16, p17, p18, p19, x0, x1, x2, x3, x4, x5, tens, point_of, settled}
 use Rattle.model.specs.Good.{named}
-use Rattle.model.specs.Step.{at, with_flag, with_value, with_work, with_totals, unasked}
+use Rattle.model.specs.Step.{at, with_flag, with_value, with_work, unasked}
 use Rattle.model.specs.Event.{ordered}
 use Rattle.model.specs.Parts.Moves.{step}
-use Rattle.model.specs.Parts.Steps.{move_of, shared_after, own_left, stepped}
+use Rattle.model.specs.Parts.Steps.{move_of, shared_after, stepped}
 use Rattle.model.specs.Run.{Order, after}
 use Rattle.model.specs.Laws.Tests.{split}
 use Rattle.model.specs.Laws.Cases.{Allowed, enters, crashes, calls_off, leaves, after-case}
@@ -109,17 +109,17 @@ step_kept t k s h e =
         subst (λ (i : ℕ). Kept t k i (move_of t k).own (shared_after (move_of t k) t.shared)) (sym (number n (point_of n) e refl))
         (rw (move_at t k (point_of n) refl) (move-kept t k _ (point_of n)))
 
-    rest : port_at (stepped t k).table k ≡ with_value (port_at (stepped t k).table k).value (own_left t k)
+    rest : port_at (stepped t k).table k ≡ with_value (port_at (stepped t k).table k).value (settled (move_of t k).own)
     rest = left-rest t k k _ (own-left t k s h)
 
-    unless-set : Left t k k (own_left t k) → (n ≡ 4 → ⊥) → (Sets t k k → ⊥)
+    unless-set : Left t k k (settled (move_of t k).own) → (n ≡ 4 → ⊥) → (Sets t k k → ⊥)
         → (port_at (stepped t k).table k).value ≡ (port_at t k).value
     unless-set (unset q) a b = ap (λ (p : Port). p.value) q ∙ m.value a b
     unless-set (set_one w q) a b = absurd (b w)
 
--- an event that is no step changes only the point, the working values, the totals and the flag of its port
+-- an event that is no step changes only the point, the working values and the flag of its port
 pub ordered-rest : (e : ℕ) (p : Port) → Allowed e p
-    → ordered e p ≡ at (ordered e p).point (with_totals (ordered e p).totals (with_work (ordered e p).work (with_flag (ordered e p).flag p)))
+    → ordered e p ≡ at (ordered e p).point (with_work (ordered e p).work (with_flag (ordered e p).flag p))
 ordered-rest e p (enters _ _ _ q) = rw q
 ordered-rest e p (crashes _ _ q) = rw q
 ordered-rest e p (calls_off _ _ q) = rw q

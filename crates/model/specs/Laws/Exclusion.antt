@@ -1,27 +1,25 @@
 -- Exclusion: at most one port has STATUS CS, only the port's own step at 13 takes it away, and a port that crashes with it is inside again after its
 -- next step.
-use Rattle.std.specs.Prelude.{◌≡◌, refl, true, not, ◌&&◌, ℕ, ◌+◌, ◌≤◌, ◌<◌}
-use Rattle.std.proofs.Common.{sym, ◌∙◌, inl, inr, true≢false, lt_of_lt_of_le, arith}
-use Rattle.std.proofs.Math.Path.{ap}
-use Rattle.std.proofs.Math.Bool.{false, and-eq-true_iff, and-false}
+use Rattle.std.specs.Prelude.{◌≡◌, refl, true, false, not, ◌&&◌, ℕ, ◌<◌}
+use Rattle.std.proofs.Common.{sym, ◌∙◌, ap, inl, inr, true≢false, lt_of_lt_of_le, arith}
+use Rattle.std.proofs.Math.Bool.{and-eq-true_iff, and-false}
 use mathlib.Core.List.{List, [], ◌∷◌}
-use Rattle.std.proofs.Math.Dec.{eqb, ltb}
-use borrow.Author.Tests.{eq-eqb, ne_eqb, lt-leb, le-ltb, not-true}
-use Rattle.model.specs.declared.Totals.{Totals}
+use Rattle.std.proofs.Math.Dec.{eqb}
+use borrow.Author.Tests.{eq-eqb, ne_eqb, lt-leb, not-true}
 use Rattle.model.specs.declared.Port.{Port}
 use Rattle.model.specs.declared.Table.{Table}
 use Rattle.model.specs.declared.Outcome.{Outcome}
 use Rattle.model.specs.declared.Answer.TheVariants.{Done}
-use Rattle.model.specs.Table.{CS, fullest, no_work, no_totals, port_at, put_port, Sized}
+use Rattle.model.specs.Table.{CS, no_work, port_at, put_port, Sized}
 use Rattle.model.specs.Points.{p0, p1, point_of, one_of, settled}
 use Rattle.model.specs.Good.{good}
 use Rattle.model.specs.Cost.{free}
-use Rattle.model.specs.Step.{at, with_value, with_work, with_totals}
-use Rattle.model.specs.Event.{stepping, crash, step_of, raised, first_of, refusals, refusal, ordered, event}
+use Rattle.model.specs.Step.{at, with_value, with_work}
+use Rattle.model.specs.Event.{stepping, crash, first_of, refusals, refusal, ordered, event}
 use Rattle.model.specs.Parts.Moves.{step}
-use Rattle.model.specs.Parts.Steps.{own_left, stepped}
+use Rattle.model.specs.Parts.Steps.{stepped}
 use Rattle.model.specs.Run.{Order, order, after, ran, done, steps_at, stepless}
-use Rattle.model.specs.Laws.Stepped.{carried-parts, raised-parts}
+use Rattle.model.specs.Laws.Stepped.{carried-parts}
 use Rattle.model.specs.Laws.Rules.{shared-rules}
 use Rattle.model.specs.Laws.Grants.{stepped-done}
 use Rattle.model.specs.Laws.Cases.{Allowed, enters, crashes, calls_off, leaves, Stepped, after-case}
@@ -31,7 +29,6 @@ use Rattle.model.specs.Laws.Ports.{put-own, own-left, left-rest}
 use Rattle.model.specs.Laws.Life.{Critical, row_at, critical-at}
 use Rattle.model.specs.Laws.Changes.{step_kept, ordered-rest, other-rest}
 use Rattle.model.specs.Laws.Holding.{Safe, each-port, busy-below, safe-after}
-use Rattle.model.specs.Laws.Fees.{cost}
 
 -- a port with STATUS CS owns the word, so there is at most one
 owner-critical : (t : Table) → Safe t → (k : ℕ) → (port_at t k).status ≡ CS → t.shared.word.owner ≡ k
@@ -77,62 +74,42 @@ keeps-critical t k o z h =
 
 -- a crash and a step at 1 are carried out
 module _ (t : Table) (k : ℕ) (g : good t ≡ true) (l : k < t.shared.d) where
-  crash-carried : ((port_at t k).point ≡ 0 → ⊥) → event t k crash ≡ free Done (put_port t k (at 1 (with_totals no_totals (with_work no_work (port_at t k)))))
+  crash-carried : ((port_at t k).point ≡ 0 → ⊥) → event t k crash ≡ free Done (put_port t k (at 1 (with_work no_work (port_at t k))))
   unfolding event refusal refusals first_of ordered
   crash-carried n = rw (carried-parts t k crash, g, lt-leb t.shared.d k l, ne_eqb (port_at t k).point 0 n)
 
-  step-carried : (port_at t k).point ≡ 1 → (own_left t k).totals.cached ≤ fullest → (own_left t k).totals.distributed ≤ fullest
-      → event t k stepping ≡ stepped t k
+  step-carried : (port_at t k).point ≡ 1 → event t k stepping ≡ stepped t k
   unfolding event refusal refusals first_of
-  step-carried e c b =
-      let r = raised (port_at t k).totals (step_of t k) in
-      let x : ltb fullest r.cached ≡ false = ap (λ (s : Totals). ltb fullest s.cached) (raised-parts t k) ∙ le-ltb _ _ c in
-      let y : ltb fullest r.distributed ≡ false = ap (λ (s : Totals). ltb fullest s.distributed) (raised-parts t k) ∙ le-ltb _ _ b in
-      rw (carried-parts t k stepping, x, y, g, lt-leb t.shared.d k l, e)
+  step-carried e = rw (carried-parts t k stepping, g, lt-leb t.shared.d k l, e)
 
--- an order that is no step of a port leaves it at 1, and its totals at 0
+-- an order that is no step of a port leaves it at 1
 ordered-one : (e : ℕ) (p : Port) → Allowed e p → p.point ≡ 1 → (ordered e p).point ≡ 1
 ordered-one e p (enters _ n _ _) q = absurd (omega arith)
 ordered-one e p (crashes _ _ r) q = rw r
 ordered-one e p (calls_off _ _ r) q = rw r q
 ordered-one e p (leaves _ n _) q = absurd (omega arith)
 
-ordered-free : (e : ℕ) (p : Port) → Allowed e p
-    → (p.totals.cached ≡ 0 → (ordered e p).totals.cached ≡ 0) × (p.totals.distributed ≡ 0 → (ordered e p).totals.distributed ≡ 0)
-ordered-free e p (enters _ _ _ r) = rw r (λ q. refl, λ q. refl)
-ordered-free e p (crashes _ _ r) = rw r (λ q. refl, λ q. refl)
-ordered-free e p (calls_off _ _ r) = rw r (λ q. q, λ q. q)
-ordered-free e p (leaves _ _ r) = rw r (λ q. q, λ q. q)
+stays-one : (t : Table) (o : Order) → Sized t → (k : ℕ) → (port_at t k).point ≡ 1 → (eqb o.port k && eqb o.event stepping) ≡ false
+    → (port_at (after t o) k).point ≡ 1
+stays-one t o z =
+    order-keeps t o z (λ p. p.point) 1 (λ k. (eqb o.port k && eqb o.event stepping) ≡ false) (λ p a. refl) ordered-one
+    (λ c e n. absurd (true≢false (rw (eq-eqb o.port o.port refl, eq-eqb o.event stepping c.event) at n)))
 
--- where every event that is no step leaves f of its port's record at n
-stays : (t : Table) (o : Order) → Sized t → (f : Port → ℕ) (n : ℕ) → ((p : Port) (a : ℕ) → f (with_value a p) ≡ f p)
-    → ((e : ℕ) (p : Port) → Allowed e p → f p ≡ n → f (ordered e p) ≡ n)
-    → (k : ℕ) → f (port_at t k) ≡ n → (eqb o.port k && eqb o.event stepping) ≡ false → f (port_at (after t o) k) ≡ n
-stays t o z f n unvalued keeps =
-    order-keeps t o z f n (λ k. (eqb o.port k && eqb o.event stepping) ≡ false) unvalued keeps
-    (λ c e m. absurd (true≢false (rw (eq-eqb o.port o.port refl, eq-eqb o.event stepping c.event) at m)))
-
--- in a good and safe table, port k is at 1 with STATUS CS, and its totals are 0
+-- in a good and safe table, port k is at 1 with STATUS CS
 record Crashed (t : Table) (k : ℕ) : Type 0 where
   sized : Sized t
   sound : good t ≡ true
   safe : Safe t
   point : (port_at t k).point ≡ 1
   status : (port_at t k).status ≡ CS
-  cached : (port_at t k).totals.cached ≡ 0
-  distributed : (port_at t k).totals.distributed ≡ 0
 
 -- the next step of such a port reads CS and goes to 11
-one : {a b : ℕ} → a ≡ 0 → b ≤ 1 → a + b ≤ fullest
-unfolding fullest
-one e h = omega arith
-
 crashed-step : (t : Table) (k : ℕ) → Crashed t k → (port_at (after t (order k stepping)) k).point ≡ 11
 unfolding settled step
 crashed-step t k c =
     let below = busy-below t k c.sized c.sound (omega arith) in
     let fits = lt_of_lt_of_le below (shared-rules t c.sound).fits in
-    ap (λ (u : Outcome). (port_at u.table k).point) (step-carried t k c.sound below c.point (one c.cached (cost t k).0) (one c.distributed (cost t k).1))
+    ap (λ (u : Outcome). (port_at u.table k).point) (step-carried t k c.sound below c.point)
     ∙ ap (λ (p : Port). p.point) (left-rest t k k _ (own-left t k c.sized fits))
     ∙ rw (move_at t k p1 (ap point_of c.point), eq-eqb _ CS c.status)
 
@@ -150,8 +127,6 @@ module _ (good-after : (t : Table) (o : Order) → Sized t → good t ≡ true �
         safe = safe-after t (order k crash) z h;
         point = ap (λ (p : Port). p.point) now;
         status = ap (λ (p : Port). p.status) now ∙ e;
-        cached = ap (λ (p : Port). p.totals.cached) now;
-        distributed = ap (λ (p : Port). p.totals.distributed) now;
       }
 
   crashed-ran : (t : Table) (k : ℕ) (os : List Order) → Crashed t k → stepless k os ≡ true → Crashed (ran t os) k
@@ -164,10 +139,8 @@ module _ (good-after : (t : Table) (o : Order) → Sized t → good t ≡ true �
         sized = after-sized t o c.sized;
         sound = good-after t o c.sized c.sound;
         safe = safe-after t o c.sized c.safe;
-        point = stays t o c.sized (λ p. p.point) 1 (λ p a. refl) ordered-one k c.point (not-true _ both.0);
+        point = stays-one t o c.sized k c.point (not-true _ both.0);
         status = keeps-critical t k o c.sized c.safe c.status (rw (c.point, and-false (done k stepping t o)));
-        cached = stays t o c.sized (λ p. p.totals.cached) 0 (λ p a. refl) (λ e p a. (ordered-free e p a).0) k c.cached (not-true _ both.0);
-        distributed = stays t o c.sized (λ p. p.totals.distributed) 0 (λ p a. refl) (λ e p a. (ordered-free e p a).1) k c.distributed (not-true _ both.0);
       })
       both.1
 

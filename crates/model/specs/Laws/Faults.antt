@@ -1,10 +1,9 @@
 -- What is bad in a table: of the rules that fail, one whose field has the lowest place. A field that is bad stands in the image.
-use Rattle.std.specs.Prelude.{◌≡◌, refl, ◌⊎◌, Bool, true, false, cond, not, ◌&&◌, ◌||◌, eqb, leb, ltb, get_or, take, drop}
+use Rattle.std.specs.Prelude.{◌≡◌, refl, ◌⊎◌, Bool, true, false, cond, not, ◌&&◌, ◌||◌, ℕ, zero, suc, ◌+◌, ◌*◌, ◌≤◌, ◌<◌, eqb, leb, ltb, get_or, take, drop}
 use Rattle.std.proofs.Common.{sym, ap, ◌∙◌, inl, inr, true≢false, le_trans, le_refl, arith, ltb-true, leb-true, leb-false, le-leb, ne_eqb}
 use Rattle.std.proofs.lemmas.Bool.{false≢true}
 use Rattle.std.proofs.Math.Bool.{and-eq-true_iff, or-true}
 use mathlib.Core.List.{List, [], ◌∷◌, ◌++◌, foldl, foldl-append}
-use Prim.Native.Nat.{ℕ, zero, suc, ◌+◌, ◌*◌, ◌≤◌, ◌<◌}
 use Rattle.model.specs.declared.Fault.{Fault}
 use Rattle.model.specs.declared.Port.{Port}
 use Rattle.model.specs.declared.Copies.{Copies}
@@ -12,14 +11,14 @@ use Rattle.model.specs.declared.Shared.{Shared}
 use Rattle.model.specs.declared.Table.{Table}
 use Rattle.model.specs.Table.{room, size_good, port_at, copies_at}
 use Rattle.model.specs.Bytes.{sum}
-use Rattle.model.specs.Layout.{present, since, head_widths, shared_widths, port_widths, copied_widths, copies_widths, totals_widths, set_width, port_place, copies_place, totals_place, size}
+use Rattle.model.specs.Layout.{head_widths, shared_widths, port_widths, copied_widths, copies_widths, set_width, port_place, copies_place, size}
 use Rattle.model.specs.declared.Answer.{Answer}
 use Rattle.model.specs.declared.Answer.TheVariants.{BadTable, NoSuchPort}
 use Rattle.model.specs.Cost.{free}
 use Rattle.model.specs.Event.{number_of, first_of, refusals, refusal, event}
-use Rattle.model.specs.Good.{Rule, whole, room_empty, spin_good, spin_field, shared_rules, field_rules, work_rules, copy_rules, total_rules, port_rules, ports_rules, rules, passed, good, nowhere, lower, bad_at, bad_in}
+use Rattle.model.specs.Good.{Rule, whole, room_empty, spin_good, spin_field, shared_rules, field_rules, work_rules, copy_rules, port_rules, ports_rules, rules, passed, good, nowhere, lower, bad_in}
 use Rattle.model.specs.Laws.Tests.{split}
-use Rattle.model.specs.Laws.Listed.{rules_at, start_rules, rules-good}
+use Rattle.model.specs.Laws.Listed.{rules_at, start_rules}
 
 -- rule i of a list; past its end, one that passes
 abbrev pub rule_at : List Rule → ℕ → Rule
@@ -118,29 +117,27 @@ failing-port d j n made e = go (ltb j d) refl
     go false p = absurd (true≢false (rw p at e))
 
 -- where records end in the image
-port-ends : (v d k : ℕ) → k < d → port_place v k + 16 ≤ port_place v d
-unfolding sum shared_widths port_widths port_place
-port-ends v d k h = omega (arith, h)
+port-ends : (d k : ℕ) → k < d → port_place k + 16 ≤ port_place d
+unfolding sum head_widths shared_widths port_widths port_place
+port-ends d k h = omega (arith, h)
 
-sets_end : (v d : ℕ) → (1 ≤ set_width d) × (port_place v d + 2 * set_width d ≤ size v d) × ((k : ℕ) → k < d → copies_place v d k + 3 * set_width d ≤ size v d)
-unfolding sum set_width copied_widths copies_widths copies_place totals_place size
-sets_end v d = go (leb d 16) refl
+sets_end : (d : ℕ) → (1 ≤ set_width d) × (port_place d + 2 * set_width d ≤ size d) × ((k : ℕ) → k < d → copies_place d k + 3 * set_width d ≤ size d)
+unfolding sum set_width copied_widths copies_widths copies_place size
+sets_end d = go (leb d 16) refl
   where
-    go : (b : Bool) → leb d 16 ≡ b
-        → (1 ≤ set_width d) × (port_place v d + 2 * set_width d ≤ size v d) × ((k : ℕ) → k < d → copies_place v d k + 3 * set_width d ≤ size v d)
+    go : (b : Bool) → leb d 16 ≡ b → (1 ≤ set_width d) × (port_place d + 2 * set_width d ≤ size d) × ((k : ℕ) → k < d → copies_place d k + 3 * set_width d ≤ size d)
     go true q = rw q (omega arith, omega arith, λ k h. omega (arith, h))
     go false q = rw q (omega arith, omega arith, λ k h. omega (arith, h))
 
-starts : (v d : ℕ) → sum (head_widths v) + 12 ≤ port_place v d
-unfolding sum shared_widths port_widths port_place
-starts v d = omega arith
+starts : (d : ℕ) → 26 ≤ port_place d
+unfolding sum head_widths shared_widths port_widths port_place
+starts d = omega arith
 
--- before a place n that is no lower than the length of the image
-shared-before : (v : ℕ) (empty : Bool) (s : Shared) (made n : ℕ) → size v s.d ≤ n → Before n (shared_rules v empty s made)
-unfolding sum shared_widths port_widths copied_widths shared_rules
-shared-before v empty s made n l =
-    let a = starts v s.d in
-    let z = sets_end v s.d in (
+shared-before : (empty : Bool) (s : Shared) (made : ℕ) → Before (size s.d) (shared_rules empty s made)
+unfolding sum head_widths shared_widths port_widths copied_widths shared_rules
+shared-before empty s made =
+    let a = starts s.d in
+    let z = sets_end s.d in (
       λ e. omega (arith, a, z.0, z.1),
       (
         λ e. omega (arith, a, z.0, z.1),
@@ -151,7 +148,7 @@ shared-before v empty s made n l =
             (
               λ e. omega (arith, a, z.0, z.1),
               (
-                λ e. omega (arith, z.0, z.1, port-ends v s.d s.word.owner (failing-port s.d s.word.owner s.word.spin made e)),
+                λ e. omega (arith, z.0, z.1, port-ends s.d s.word.owner (failing-port s.d s.word.owner s.word.spin made e)),
                 (λ e. omega (arith, z.0, z.1), (λ e. omega (arith, z.0, z.1), tt)),
               ),
             ),
@@ -161,198 +158,166 @@ shared-before v empty s made n l =
     )
 
 -- a spin number's field
-spin-before : (v d k n j i m made : ℕ) → size v d ≤ n → k < d → sum (take i (port_widths v)) ≤ 15 → spin_good d j m made ≡ false → (spin_field v k j i).place < n
+spin-before : (d k j i n made : ℕ) → k < d → sum (take i port_widths) ≤ 15 → spin_good d j n made ≡ false → (spin_field k j i).place < size d
 unfolding sum port_widths
-spin-before v d k n j i m made l h w e =
-    let z = sets_end v d in
-    split (λ (f : Fault). f.place < n) (ltb k j) _ _
-    (λ q. omega (arith, z.0, z.1, port-ends v d j (failing-port d j m made e)))
-    (λ q. omega (arith, z.0, z.1, port-ends v d k h, w))
+spin-before d k j i n made h l e =
+    let z = sets_end d in
+    split (λ (f : Fault). f.place < size d) (ltb k j) _ _
+    (λ q. omega (arith, z.0, z.1, port-ends d j (failing-port d j n made e)))
+    (λ q. omega (arith, z.0, z.1, port-ends d k h, l))
 
-fields-before : (v active d k n : ℕ) (p : Port) → size v d ≤ n → k < d → Before n (field_rules v active k p)
+fields-before : (active d k : ℕ) (p : Port) → k < d → Before (size d) (field_rules active k p)
 unfolding sum port_widths field_rules
-fields-before v active d k n p l h =
-    let z = sets_end v d in
-    let x = port-ends v d k h in
+fields-before active d k p h =
+    let z = sets_end d in
+    let x = port-ends d k h in
     (λ e. omega (arith, z.0, z.1, x), (λ e. omega (arith, z.0, z.1, x), (λ e. omega (arith, z.0, z.1, x), (λ e. omega (arith, z.0, z.1, x), (λ e. omega (arith, z.0, z.1, x), (λ e. omega (arith, z.0, z.1, x), (λ e. omega (arith, z.0, z.1, x), (λ e. omega (arith, z.0, z.1, x), (λ e. omega (arith, z.0, z.1, x), (λ e. omega (arith, z.0, z.1, x), tt))))))))))
 
-work-before : (v d k n : ℕ) (p : Port) (a b : ℕ) → size v d ≤ n → k < d → Before n (work_rules v d k p a b)
+work-before : (d k : ℕ) (p : Port) (a b : ℕ) → k < d → Before (size d) (work_rules d k p a b)
 unfolding sum port_widths work_rules
-work-before v d k n p a b l h =
-    let z = sets_end v d in
-    let x = port-ends v d k h in
-    (λ e. omega (arith, z.0, z.1, x), (λ e. omega (arith, z.0, z.1, x), (λ e. omega (arith, z.0, z.1, x), (λ e. omega (arith, z.0, z.1, x), (λ e. omega (arith, z.0, z.1, x), (λ e. omega (arith, z.0, z.1, x), (spin-before v d k n p.work.seenowner 8 p.work.seenspin a l h (omega arith), (λ e. omega (arith, z.0, z.1, x), (λ e. omega (arith, z.0, z.1, x), (λ e. omega (arith, z.0, z.1, x), (spin-before v d k n p.work.candidate 10 p.work.candidatespin b l h (omega arith), tt)))))))))))
+work-before d k p a b h =
+    let z = sets_end d in
+    let x = port-ends d k h in
+    (λ e. omega (arith, z.0, z.1, x), (λ e. omega (arith, z.0, z.1, x), (λ e. omega (arith, z.0, z.1, x), (λ e. omega (arith, z.0, z.1, x), (λ e. omega (arith, z.0, z.1, x), (λ e. omega (arith, z.0, z.1, x), (spin-before d k p.work.seenowner 8 p.work.seenspin a h (omega arith), (λ e. omega (arith, z.0, z.1, x), (λ e. omega (arith, z.0, z.1, x), (λ e. omega (arith, z.0, z.1, x), (spin-before d k p.work.candidate 10 p.work.candidatespin b h (omega arith), tt)))))))))))
 
-copies-before : (v d k n made : ℕ) (c : Copies) → size v d ≤ n → k < d → Before n (copy_rules v d k made c)
+copies-before : (d k made : ℕ) (c : Copies) → k < d → Before (size d) (copy_rules d k made c)
 unfolding sum copies_widths copy_rules
-copies-before v d k n made c l h =
-    let z = sets_end v d in
+copies-before d k made c h =
+    let z = sets_end d in
     let x = z.2 k h in
     (λ e. omega (arith, z.0, x), (λ e. omega (arith, z.0, x), (λ e. omega (arith, z.0, x), (λ e. omega (arith, z.0, x), tt))))
 
--- all rules of a table, where those for the totals are charged before n
-module _ (v : ℕ) (t : Table) (n : ℕ) (l : size v t.shared.d ≤ n)
-    (sums : (k : ℕ) → k < t.shared.d → Before n (total_rules v t.shared.d k (port_at t k))) where
-  ports-before : (m : ℕ) → m ≤ t.shared.d → Before n (ports_rules v t m)
-  unfolding ports_rules
-  ports-before zero h = tt
-  ports-before (suc m) h =
-      let d = t.shared.d in
-      let P : Fault → Type 0 = λ f. f.place < n in
-      each_append P (ports_rules v t m) (rules_at v t m)
-      (ports-before m (omega (arith, h)))
-      (each_append P (field_rules v t.shared.active m (port_at t m)) _
-      (fields-before v t.shared.active d m n (port_at t m) l h)
-      (each_append P (work_rules v d m (port_at t m) _ _) _
-      (work-before v d m n (port_at t m) _ _ l h)
-      (each_append P (copy_rules v d m (port_at t m).made (copies_at t m)) (total_rules v d m (port_at t m))
-      (copies-before v d m n (port_at t m).made (copies_at t m) l h)
-      (sums m h))))
+-- all rules of a table whose size is good
+ports-before : (t : Table) (n : ℕ) → n ≤ t.shared.d → Before (size t.shared.d) (ports_rules t n)
+unfolding ports_rules
+ports-before t zero h = tt
+ports-before t (suc n) h =
+    let d = t.shared.d in
+    each_append (λ f. f.place < size d) (ports_rules t n) (rules_at t n)
+    (ports-before t n (omega (arith, h)))
+    (each_append (λ f. f.place < size d) (field_rules t.shared.active n (port_at t n)) _
+    (fields-before t.shared.active d n (port_at t n) h)
+    (each_append (λ f. f.place < size d) (work_rules d n (port_at t n) _ _) (copy_rules d n (port_at t n).made (copies_at t n))
+    (work-before d n (port_at t n) _ _ h)
+    (copies-before d n (port_at t n).made (copies_at t n) h)))
 
-  pub rules-before : Before n (rules v t)
-  unfolding rules
-  rules-before =
-      each_append (λ f. f.place < n) (start_rules v t) (ports_rules v t t.shared.d)
-      (shared-before v (room_empty t) t.shared (port_at t t.shared.word.owner).made n l)
-      (ports-before t.shared.d (le_refl _))
-
--- the totals of a version that has them stand in the image; of one that has none, at its end
-totals-before : (v d k : ℕ) (p : Port) → k < d → Before (suc (size v d)) (total_rules v d k p)
-unfolding total_rules totals_place size since totals_widths sum
-totals-before v d k p h = go (ltb v 3) refl
-  where
-    go : (b : Bool) → ltb v 3 ≡ b → Before (suc (size v d)) (total_rules v d k p)
-    go true q = rw q (λ e. omega arith, (λ e. omega arith, tt))
-    go false q = rw q (λ e. omega (arith, h), (λ e. omega (arith, h), tt))
-
-pub totals-inside : (v d k : ℕ) (p : Port) → ltb v 3 ≡ false → k < d → Before (size v d) (total_rules v d k p)
-unfolding total_rules totals_place size since totals_widths sum
-totals-inside v d k p q h = rw q (λ e. omega (arith, h), (λ e. omega (arith, h), tt))
+pub rules-before : (t : Table) → Before (size t.shared.d) (rules t)
+unfolding rules
+rules-before t =
+    each_append (λ f. f.place < size t.shared.d) (start_rules t) (ports_rules t t.shared.d)
+    (shared-before (room_empty t) t.shared (port_at t t.shared.word.owner).made)
+    (ports-before t t.shared.d (le_refl _))
 
 -- the table as a whole is bad where its size is, or where room above D is not empty
-pub whole-first : (v : ℕ) (empty : Bool) (s : Shared) (made : ℕ) → (size_good s.d && empty) ≡ false
-    → foldl lower nowhere (shared_rules v empty s made) ≡ whole
+pub whole-first : (empty : Bool) (s : Shared) (made : ℕ) → (size_good s.d && empty) ≡ false → foldl lower nowhere (shared_rules empty s made) ≡ whole
 unfolding shared_rules lower
-whole-first v empty s made e = go (size_good s.d) refl empty refl
+whole-first empty s made e = go (size_good s.d) refl empty refl
   where
     rest : List Rule
-    rest = drop 2 (shared_rules v empty s made)
+    rest = drop 2 (shared_rules empty s made)
 
-    go : (a : Bool) → size_good s.d ≡ a → (b : Bool) → empty ≡ b → foldl lower nowhere (shared_rules v empty s made) ≡ whole
+    go : (a : Bool) → size_good s.d ≡ a → (b : Bool) → empty ≡ b → foldl lower nowhere (shared_rules empty s made) ≡ whole
     go true p true q = absurd (true≢false (rw (p, q) at e))
     go true p false q = rw (p, q) (whole-stays rest)
     go false p true q = rw (p, q) (whole-stays rest)
     go false p false q = rw (p, q) (whole-stays rest)
 
-pub bad-whole : (v : ℕ) (t : Table) → (size_good t.shared.d && room_empty t) ≡ false → bad_at v t ≡ whole
-unfolding bad_at rules
-bad-whole v t e =
-    bad-append nowhere (start_rules v t) (ports_rules v t t.shared.d)
-    ∙ ap (λ (f : Fault). foldl lower f (ports_rules v t t.shared.d)) (whole-first v (room_empty t) t.shared (port_at t t.shared.word.owner).made e)
-    ∙ whole-stays (ports_rules v t t.shared.d)
-
--- the version that is written has totals
-pub present-totals : (d : ℕ) → ltb (present d) 3 ≡ false
-unfolding present
-present-totals d = split (λ (v : ℕ). ltb v 3 ≡ false) (leb d 16) 3 4 (λ e. refl) (λ e. refl)
+pub bad-whole : (t : Table) → (size_good t.shared.d && room_empty t) ≡ false → bad_in t ≡ whole
+unfolding bad_in rules
+bad-whole t e =
+    bad-append nowhere (start_rules t) (ports_rules t t.shared.d)
+    ∙ ap (λ (f : Fault). foldl lower f (ports_rules t t.shared.d)) (whole-first (room_empty t) t.shared (port_at t t.shared.word.owner).made e)
+    ∙ whole-stays (ports_rules t t.shared.d)
 
 -- an image is shorter than the place that says that nothing is bad
-size_below : (v d : ℕ) → d ≤ room → size v d < 65534
-unfolding room sum since head_widths shared_widths port_widths set_width copied_widths copies_widths totals_widths port_place copies_place totals_place size
-size_below v d h = go (leb d 16) (ltb v 3) refl refl
+size_below : (d : ℕ) → d ≤ room → size d < 65535
+unfolding room sum head_widths shared_widths port_widths set_width copied_widths copies_widths port_place copies_place size
+size_below d h = go (leb d 16) refl
   where
-    go : (b c : Bool) → leb d 16 ≡ b → ltb v 3 ≡ c → size v d < 65534
-    go true true p q = rw (p, q) (omega (arith, h))
-    go true false p q = rw (p, q) (omega (arith, h))
-    go false true p q = rw (p, q) (omega (arith, h))
-    go false false p q = rw (p, q) (omega (arith, h))
+    go : (b : Bool) → leb d 16 ≡ b → size d < 65535
+    go true q = rw q (omega (arith, h))
+    go false q = rw q (omega (arith, h))
 
 pub size_fits : (d : ℕ) → size_good d ≡ true → d ≤ room
 unfolding size_good
 size_fits d e = leb-true d room ((and-eq-true_iff (leb 1 d) (leb d room)).0 e).1
 
-pub good-nowhere : (v : ℕ) (t : Table) → good t ≡ true → bad_at v t ≡ nowhere
-unfolding bad_at
-good-nowhere v t e = none-bad nowhere (rules v t) (rules-good v t ∙ e)
+pub good-nowhere : (t : Table) → good t ≡ true → bad_in t ≡ nowhere
+unfolding good bad_in
+good-nowhere t e = none-bad nowhere (rules t) e
 
-pub bad-somewhere : (v : ℕ) (t : Table) → good t ≡ false → (bad_at v t).place < 65535
-unfolding bad_at
-bad-somewhere v t e = go (size_good t.shared.d) refl
+pub bad-somewhere : (t : Table) → good t ≡ false → (bad_in t).place < 65535
+unfolding good bad_in
+bad-somewhere t e = go (size_good t.shared.d) refl
   where
-    go : (b : Bool) → size_good t.shared.d ≡ b → (bad_at v t).place < 65535
+    go : (b : Bool) → size_good t.shared.d ≡ b → (bad_in t).place < 65535
     go true p =
-        let n = size v t.shared.d in
-        let s = some-fails (rules v t) (rules-good v t ∙ e) in
-        let before = rules-before v t (suc n) (omega arith) (λ k h. totals-before v t.shared.d k (port_at t k) h) in
+        let s = some-fails (rules t) e in
         omega (
           arith,
-          lowest nowhere (rules v t) s.0 s.1,
-          each_at (λ f. f.place < suc n) (rules v t) before s.0 s.1,
-          size_below v t.shared.d (size_fits t.shared.d p),
+          lowest nowhere (rules t) s.0 s.1,
+          each_at (λ f. f.place < size t.shared.d) (rules t) (rules-before t) s.0 s.1,
+          size_below t.shared.d (size_fits t.shared.d p),
         )
-    go false p = rw (bad-whole v t (rw p)) (omega arith)
+    go false p = rw (bad-whole t (rw p)) (omega arith)
 
 -- so the place says whether a table is good
-pub place-good : (v : ℕ) (t : Table) → eqb (bad_at v t).place 65535 ≡ good t
-place-good v t = go (good t) refl
+pub place-good : (t : Table) → eqb (bad_in t).place 65535 ≡ good t
+place-good t = go (good t) refl
   where
-    go : (b : Bool) → good t ≡ b → eqb (bad_at v t).place 65535 ≡ b
-    go true e = rw (good-nowhere v t e)
-    go false e = ne_eqb (bad_at v t).place 65535 (λ q. absurd (omega (arith, bad-somewhere v t e, q)))
+    go : (b : Bool) → good t ≡ b → eqb (bad_in t).place 65535 ≡ b
+    go true e = rw (good-nowhere t e)
+    go false e = ne_eqb (bad_in t).place 65535 (λ q. absurd (omega (arith, bad-somewhere t e, q)))
 
 -- what is bad in a bad table is the field of a rule that fails
-pub bad-rule : (v : ℕ) (t : Table) → good t ≡ false → Fails (rules v t) (bad_at v t)
-unfolding bad_at
-bad-rule v t e = go (from-rule nowhere (rules v t))
+pub bad-rule : (t : Table) → good t ≡ false → Fails (rules t) (bad_in t)
+unfolding bad_in
+bad-rule t e = go (from-rule nowhere (rules t))
   where
-    go : (foldl lower nowhere (rules v t) ≡ nowhere) ⊎ Fails (rules v t) (foldl lower nowhere (rules v t)) → Fails (rules v t) (bad_at v t)
-    go (inl q) = absurd (omega (arith, bad-somewhere v t e, ap (λ (f : Fault). f.place) q))
+    go : (foldl lower nowhere (rules t) ≡ nowhere) ⊎ Fails (rules t) (foldl lower nowhere (rules t)) → Fails (rules t) (bad_in t)
+    go (inl q) = absurd (omega (arith, bad-somewhere t e, ap (λ (f : Fault). f.place) q))
     go (inr s) = s
 
 -- and it stands in the image, where D is in range
-pub bad-inside : (t : Table) → good t ≡ false → (bad_in t).place < size (present t.shared.d) t.shared.d
+pub bad-inside : (t : Table) → good t ≡ false → (bad_in t).place < size t.shared.d
 bad-inside t e =
-    let d = t.shared.d in
-    let v = present d in
-    let s = bad-rule v t e in
-    rw s.1.1
-    (each_at (λ f. f.place < size v d) (rules v t)
-    (rules-before v t (size v d) (le_refl _) (λ k h. totals-inside v d k (port_at t k) (present-totals d) h)) s.0 s.1.0)
+    let s = bad-rule t e in
+    rw s.1.1 (each_at (λ f. f.place < size t.shared.d) (rules t) (rules-before t) s.0 s.1.0)
 
 -- it is a field, and not the table as a whole, where D is in range and room above D is empty
 abbrev Field : List Rule → Type 0
 Field rs = Each (λ f. 0 < f.kind) rs
 
-spin-field : (v k j i : ℕ) → 0 < (spin_field v k j i).kind
-spin-field v k j i = split (λ (f : Fault). 0 < f.kind) (ltb k j) _ _ (λ q. omega arith) (λ q. omega arith)
+spin-field : (k j i : ℕ) → 0 < (spin_field k j i).kind
+spin-field k j i = split (λ (f : Fault). 0 < f.kind) (ltb k j) _ _ (λ q. omega arith) (λ q. omega arith)
 
-port-fields : (v : ℕ) (s : Shared) (k : ℕ) (p : Port) (c : Copies) (a b : ℕ) → Field (port_rules v s k p c a b)
-unfolding field_rules work_rules copy_rules total_rules
-port-fields v s k p c a b =
-    (λ e. omega arith, (λ e. omega arith, (λ e. omega arith, (λ e. omega arith, (λ e. omega arith, (λ e. omega arith, (λ e. omega arith, (λ e. omega arith, (λ e. omega arith, (λ e. omega arith, (λ e. omega arith, (λ e. omega arith, (λ e. omega arith, (λ e. omega arith, (λ e. omega arith, (λ e. omega arith, (λ e. spin-field v k p.work.seenowner 8, (λ e. omega arith, (λ e. omega arith, (λ e. omega arith, (λ e. spin-field v k p.work.candidate 10, (λ e. omega arith, (λ e. omega arith, (λ e. omega arith, (λ e. omega arith, (λ e. omega arith, (λ e. omega arith, tt)))))))))))))))))))))))))))
+port-fields : (s : Shared) (k : ℕ) (p : Port) (c : Copies) (a b : ℕ) → Field (port_rules s k p c a b)
+unfolding field_rules work_rules copy_rules
+port-fields s k p c a b =
+    (λ e. omega arith, (λ e. omega arith, (λ e. omega arith, (λ e. omega arith, (λ e. omega arith, (λ e. omega arith, (λ e. omega arith, (λ e. omega arith, (λ e. omega arith, (λ e. omega arith, (λ e. omega arith, (λ e. omega arith, (λ e. omega arith, (λ e. omega arith, (λ e. omega arith, (λ e. omega arith, (λ e. spin-field k p.work.seenowner 8, (λ e. omega arith, (λ e. omega arith, (λ e. omega arith, (λ e. spin-field k p.work.candidate 10, (λ e. omega arith, (λ e. omega arith, (λ e. omega arith, (λ e. omega arith, tt)))))))))))))))))))))))))
 
-ports-fields : (v : ℕ) (t : Table) (n : ℕ) → Field (ports_rules v t n)
+ports-fields : (t : Table) (n : ℕ) → Field (ports_rules t n)
 unfolding ports_rules
-ports-fields v t zero = tt
-ports-fields v t (suc n) =
-    each_append (λ f. 0 < f.kind) (ports_rules v t n) (rules_at v t n) (ports-fields v t n)
-    (port-fields v t.shared n (port_at t n) (copies_at t n) _ _)
+ports-fields t zero = tt
+ports-fields t (suc n) =
+    each_append (λ f. 0 < f.kind) (ports_rules t n) (rules_at t n) (ports-fields t n)
+    (port-fields t.shared n (port_at t n) (copies_at t n) _ _)
 
-shared-fields : (v : ℕ) (empty : Bool) (s : Shared) (made : ℕ) → (size_good s.d && empty) ≡ true → Field (shared_rules v empty s made)
+shared-fields : (empty : Bool) (s : Shared) (made : ℕ) → (size_good s.d && empty) ≡ true → Field (shared_rules empty s made)
 unfolding shared_rules
-shared-fields v empty s made h =
+shared-fields empty s made h =
     let q = (and-eq-true_iff (size_good s.d) empty).0 h in
     (λ e. absurd (true≢false (sym q.0 ∙ e)), (λ e. absurd (true≢false (sym q.1 ∙ e)), (λ e. omega arith, (λ e. omega arith, (λ e. omega arith, (λ e. omega arith, (λ e. omega arith, (λ e. omega arith, tt))))))))
 
-pub bad-field : (v : ℕ) (t : Table) → (size_good t.shared.d && room_empty t) ≡ true → good t ≡ false → 0 < (bad_at v t).kind
+pub bad-field : (t : Table) → (size_good t.shared.d && room_empty t) ≡ true → good t ≡ false → 0 < (bad_in t).kind
 unfolding rules
-bad-field v t h e =
-    let s = bad-rule v t e in
+bad-field t h e =
+    let s = bad-rule t e in
     rw s.1.1
-    (each_at (λ f. 0 < f.kind) (rules v t)
-    (each_append (λ f. 0 < f.kind) (start_rules v t) (ports_rules v t t.shared.d)
-    (shared-fields v (room_empty t) t.shared (port_at t t.shared.word.owner).made h)
-    (ports-fields v t t.shared.d))
+    (each_at (λ f. 0 < f.kind) (rules t)
+    (each_append (λ f. 0 < f.kind) (start_rules t) (ports_rules t t.shared.d)
+    (shared-fields (room_empty t) t.shared (port_at t t.shared.word.owner).made h)
+    (ports-fields t t.shared.d))
     s.0
     s.1.0)
 
@@ -361,20 +326,18 @@ pub bad-event : (t : Table) (k e : ℕ) → good t ≡ false → event t k e ≡
 unfolding event refusal first_of
 bad-event t k e h = rw h
 
--- the answer of a list whose first that applies is none of number n
-abbrev pub Others : ℕ → List (Bool × Answer) → Type 0
-Others n [] = Unit {0}
-Others n (r ∷ rs) = (r.0 ≡ true → number_of r.1 ≡ n → ⊥) × Others n rs
+abbrev Others : List (Bool × Answer) → Type 0
+Others [] = Unit {0}
+Others (r ∷ rs) = (number_of r.1 ≡ 1 → ⊥) × Others rs
 
-pub first-other : (n : ℕ) (rs : List (Bool × Answer)) → 0 < n → Others n rs → number_of (first_of rs) ≡ n → ⊥
+first-other : (rs : List (Bool × Answer)) → Others rs → number_of (first_of rs) ≡ 1 → ⊥
 unfolding first_of
-first-other n [] l h = λ q. absurd (omega (arith, q, l))
-first-other n (r ∷ rs) l h =
-    split (λ (a : Answer). number_of a ≡ n → ⊥) r.0 r.1 (first_of rs) (λ q. h.0 q) (λ q. first-other n rs l h.1)
+first-other [] h = λ q. absurd (omega (arith, q))
+first-other (r ∷ rs) h = split (λ (a : Answer). number_of a ≡ 1 → ⊥) r.0 r.1 (first_of rs) (λ q. h.0) (λ q. first-other rs h.1)
 
 pub good-other : (t : Table) (k e : ℕ) → good t ≡ true → number_of (refusal t k e) ≡ 1 → ⊥
 unfolding refusal refusals
 good-other t k e h =
     rw h
-    (first-other 1 ((leb t.shared.d k, NoSuchPort) ∷ refusals e (port_at t k) _) (omega arith)
-    (λ a q. absurd (omega (arith, q)), (λ a q. absurd (omega (arith, q)), (λ a q. absurd (omega (arith, q)), (λ a q. absurd (omega (arith, q)), (λ a q. absurd (omega (arith, q)), (λ a q. absurd (omega (arith, q)), (λ a q. absurd (omega (arith, q)), (λ a q. absurd (omega (arith, q)), tt)))))))))
+    (first-other ((leb t.shared.d k, NoSuchPort) ∷ refusals e (port_at t k))
+    (λ q. absurd (omega (arith, q)), (λ q. absurd (omega (arith, q)), (λ q. absurd (omega (arith, q)), (λ q. absurd (omega (arith, q)), (λ q. absurd (omega (arith, q)), (λ q. absurd (omega (arith, q)), (λ q. absurd (omega (arith, q)), tt))))))))

@@ -91,7 +91,7 @@ module _ (t : Table) (k : ℕ) where
   charge-at q e = ap (charge_at t k) e
 
   -- it costs at most 1 in either model, and nothing where the step touches no word
-  pub cost : ((charge_of t k).cached ≤ 1) × ((charge_of t k).distributed ≤ 1)
+  cost : ((charge_of t k).cached ≤ 1) × ((charge_of t k).distributed ≤ 1)
   cost = rw (charge-at (point_of (port_at t k).point) refl) (charge-cost (touch_at (point_of (port_at t k).point)) k _ _ _ _)
 
   free : touch_at (point_of (port_at t k).point) ≡ untouched → ((charge_of t k).cached ≡ 0) × ((charge_of t k).distributed ≡ 0)

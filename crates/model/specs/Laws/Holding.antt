@@ -15,7 +15,7 @@ use Rattle.model.specs.Points.{x5, tens, point_of, settled}
 use Rattle.model.specs.Good.{every_below, good}
 use Rattle.model.specs.Parts.Good.{shared_good, port_empty, place_good, all_good}
 use Rattle.model.specs.Event.{ordered}
-use Rattle.model.specs.Parts.Steps.{view_of, move_of, own_left, stepped}
+use Rattle.model.specs.Parts.Steps.{view_of, move_of, stepped}
 use Rattle.model.specs.Run.{Order, after}
 use Rattle.model.specs.Laws.Tests.{conjunct, every-below}
 use Rattle.model.specs.Laws.Listed.{good-all}
@@ -179,7 +179,7 @@ module _ (t : Table) (k : ℕ) (z : Sized t) (fits : k < room) where
       origin-set w (before b e a) = counted b e (λ _. inr (k, sets-saw l k w))
       origin-set w (new n e a) = let clash : ◌≡◌ {A = ℕ} 0 1 = cc (ap point_of n) in absurd (omega arith)
 
-      own-past : Left t k k (own_left t k) → SpinFrom t u k
+      own-past : Left t k k (settled (move_of t k).own) → SpinFrom t u k
       own-past (unset q) = rw q (λ c. origin-unset (f.spin c))
       own-past (set_one w q) = rw q (λ c. origin-set w (f.spin c))
 
@@ -195,7 +195,7 @@ idle-beyond t k z e h =
     elim (dec_lt k room) [
       | yes f ↦
           let empty = rw (le-ltb k t.shared.d h) at (every-below room (place_good t) places k f) in
-          eqb-true _ _ (conjunct _ (_ ∷ _ ∷ _ ∷ _ ∷ _ ∷ _ ∷ _ ∷ _ ∷ _ ∷ _ ∷ _ ∷ _ ∷ _ ∷ _ ∷ _ ∷ []) empty 0)
+          eqb-true _ _ (conjunct _ (_ ∷ _ ∷ _ ∷ _ ∷ _ ∷ _ ∷ _ ∷ _ ∷ _ ∷ _ ∷ _ ∷ _ ∷ _ ∷ []) empty 0)
       | no f ↦ ap (λ (p : Port). p.point) (get_or-eq_default t.ports no_port (omega (arith, z.ports)))
     ]
 

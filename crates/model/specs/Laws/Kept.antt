@@ -1,5 +1,5 @@
 -- A good table stays good: a fresh table is good, and every order, and so every run, makes a good table of a good one.
-use Rattle.std.specs.Prelude.{◌≡◌, refl, true, ◌&&◌, List, [], ◌∷◌, ◌++◌, ℕ, ◌≤◌, leb}
+use Rattle.std.specs.Prelude.{◌≡◌, refl, true, ◌&&◌, List, [], ◌∷◌, ℕ, ◌≤◌, leb}
 use Rattle.std.proofs.Common.{◌∙◌, arith, leb-true, lit≤, pow_pos}
 use Rattle.std.proofs.Math.Bool.{and-eq-true_iff}
 use Rattle.std.proofs.lemmas.List.{get_or-replicate}
@@ -61,18 +61,13 @@ pub good-after : (t : Table) (o : Order) → Sized t → good t ≡ true → goo
 good-after t o z g =
     after-case t o (λ (u : Table). good u ≡ true) g
     (λ c. ordered-good t o.port o.event z g c.port c.allowed)
-    (λ c. step-good t o.port z g c.port (omega (arith, (shared-rules t g).fits, room_fits)) c.unworn c.cached c.distributed)
+    (λ c. step-good t o.port z g c.port (omega (arith, (shared-rules t g).fits, room_fits)) c.unworn)
 
 -- every run makes a good table of a good one, and keeps the lengths and the number of ports
 pub ran-sized : (t : Table) (os : List Order) → Sized t → Sized (ran t os)
 unfolding ran
 ran-sized t [] z = z
 ran-sized t (o ∷ os) z = ran-sized (after t o) os (after-sized t o z)
-
-pub ran_append : (t : Table) (os ps : List Order) → ran t (os ++ ps) ≡ ran (ran t os) ps
-unfolding ran
-ran_append t [] ps = refl
-ran_append t (o ∷ os) ps = ran_append (after t o) os ps
 
 pub ran-d : (t : Table) (os : List Order) → (ran t os).shared.d ≡ t.shared.d
 unfolding ran

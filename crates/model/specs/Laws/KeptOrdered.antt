@@ -3,15 +3,15 @@ use Rattle.std.specs.Prelude.{◌≡◌, refl, Bool, true, ℕ, ◌≤◌, ◌<�
 use Rattle.std.proofs.Common.{ap, subst, arith, ne_eqb}
 use Rattle.model.specs.declared.Port.{Port}
 use Rattle.model.specs.declared.Table.{Table}
-use Rattle.model.specs.Table.{no_totals, port_at, put_port, Sized}
+use Rattle.model.specs.Table.{port_at, put_port, Sized}
 use Rattle.model.specs.Mask.{stands}
 use Rattle.model.specs.Points.{one_of, own_place, seen_place, candidate_place, candidate_spin_place}
 use Rattle.model.specs.Good.{named, good}
-use Rattle.model.specs.Step.{at, with_totals}
+use Rattle.model.specs.Step.{at}
 use Rattle.model.specs.Event.{ordered}
 use Rattle.model.specs.Laws.Cases.{Allowed, enters, crashes, calls_off, leaves}
 use Rattle.model.specs.Laws.Ports.{put-own, put_other}
-use Rattle.model.specs.Laws.Sound.{made_of, Enters, Rests, Fit, totals-fit, Sound, good-sound, sound-good}
+use Rattle.model.specs.Laws.Sound.{made_of, Enters, Rests, Fit, Sound, good-sound, sound-good}
 use Rattle.model.specs.Laws.KeptPorts.{word-grows, grown, ports-fit}
 
 -- a port that goes on to a point at which the rules ask nothing, and where its working values have no more places
@@ -24,7 +24,7 @@ to-point p m n q e r f =
 ordered-fit : (d : ℕ) (made : ℕ → ℕ) (bit : Bool) (e : ℕ) (p : Port) → Allowed e p → Fit d made bit p
     → Fit d made bit (ordered e p) × ((ordered e p).made ≡ p.made)
 unfolding named one_of own_place seen_place candidate_place candidate_spin_place
-ordered-fit d made bit e p (enters _ q _ o) f = rw o (to-point (with_totals no_totals p) 0 1 q (search) (λ r. search) (totals-fit no_totals (omega arith) (omega arith) f), refl)
+ordered-fit d made bit e p (enters _ q _ o) f = rw o (to-point p 0 1 q (search) (λ r. search) f, refl)
 ordered-fit d made bit e p (crashes _ _ o) f =
     rw o (record { bounds = omega (arith, f.bounds); enters = search; rests = search }, refl)
 ordered-fit d made bit e p (calls_off _ n o) f =

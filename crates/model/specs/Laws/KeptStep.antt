@@ -4,24 +4,23 @@ use Rattle.std.proofs.Common.{◌∙◌, ap, arith, pow_pos}
 use Rattle.std.proofs.Math.Decide.{ℕ_discrete}
 use Rattle.model.specs.declared.Port.{Port}
 use Rattle.model.specs.declared.Table.{Table}
-use Rattle.model.specs.Table.{room, most, fullest, port_at, copies_at, Sized}
+use Rattle.model.specs.Table.{room, most, port_at, copies_at, Sized}
 use Rattle.model.specs.Mask.{stands}
 use Rattle.model.specs.Points.{settled}
 use Rattle.model.specs.Good.{good}
 use Rattle.model.specs.Parts.Good.{port_empty}
-use Rattle.model.specs.Parts.Steps.{touch_of, home_of, move_of, copies_after, charge_of, own_left, stepped}
+use Rattle.model.specs.Parts.Steps.{touch_of, home_of, move_of, copies_after, charge_of, stepped}
 use Rattle.model.specs.Laws.Tests.{split}
 use Rattle.model.specs.Laws.After.{step_after, copies-home, copies-other, home_below}
 use Rattle.model.specs.Laws.Ports.{Left, unset, set_one, own-left, other-left, left-rest}
-use Rattle.model.specs.Laws.Sound.{made_of, Fit, totals-fit, SharedCopies, PortCopies, Sound, good-sound, sound-good}
+use Rattle.model.specs.Laws.Sound.{made_of, Fit, SharedCopies, PortCopies, Sound, good-sound, sound-good}
 use Rattle.model.specs.Laws.Settled.{settled-fit}
 use Rattle.model.specs.Laws.KeptOwn.{Moved, moved}
 use Rattle.model.specs.Laws.KeptCopies.{charge-below, charge-spin}
 use Rattle.model.specs.Laws.KeptPorts.{word-grows, value-fit, grown, ports-fit}
 
 module _ (t : Table) (k : ℕ) (z : Sized t) (s : Sound t) (h : k < t.shared.d) (l : home_of t k < t.shared.d)
-    (m : Moved t k (move_of t k).own (move_of t k).active (move_of t k).word)
-    (c : (own_left t k).totals.cached ≤ fullest) (b : (own_left t k).totals.distributed ≤ fullest) where
+    (m : Moved t k (move_of t k).own (move_of t k).active (move_of t k).word) where
   -- the table after the step
   abbrev now : Table
   now = (stepped t k).table
@@ -36,7 +35,7 @@ module _ (t : Table) (k : ℕ) (z : Sized t) (s : Sound t) (h : k < t.shared.d) 
   left-fit j p (set_one w e) g f = rw e (value-fit _ _ _ p (omega (arith, w.made)) f)
 
   -- every port: that of the step with its settled record, and the others with what stood there
-  own : Left t k k (own_left t k)
+  own : Left t k k (settled (move_of t k).own)
   own = own-left t k z (omega (arith, s.fits))
 
   grows : (j : ℕ) → made_of t j ≤ made_of now j
@@ -47,7 +46,7 @@ module _ (t : Table) (k : ℕ) (z : Sized t) (s : Sound t) (h : k < t.shared.d) 
   unfolding settled
   ports =
       ports-fit t now k t.shared.d t.shared.active (move_of t k).active grows m.others
-      (left-fit k _ own m.grows (totals-fit _ c b (settled-fit _ _ _ _ m.bounds m.enters)))
+      (left-fit k _ own m.grows (settled-fit _ _ _ _ m.bounds m.enters))
       (λ j i n. left-fit j _ (other-left t k j n) (omega arith) (s.port j i))
 
   -- the room kept for ports at or above D is neither set nor touched
@@ -99,8 +98,7 @@ module _ (t : Table) (k : ℕ) (z : Sized t) (s : Sound t) (h : k < t.shared.d) 
         empty = empty;
       })
 
--- the step of a port below D that has a spin left to make where it is at 4, and takes no total above the highest
+-- the step of a port below D that has a spin left to make where it is at 4
 pub step-good : (t : Table) (k : ℕ) → Sized t → good t ≡ true → k < t.shared.d → t.shared.d ≤ 64
-    → ((port_at t k).point ≡ 4 → made_of t k ≡ most → ⊥)
-    → (own_left t k).totals.cached ≤ fullest → (own_left t k).totals.distributed ≤ fullest → good (stepped t k).table ≡ true
-step-good t k z g h w u c b = sound-good _ (step-sound t k z (good-sound t g) h (home_below t k g h) (moved t k g h w u) c b)
+    → ((port_at t k).point ≡ 4 → made_of t k ≡ most → ⊥) → good (stepped t k).table ≡ true
+step-good t k z g h w u = sound-good _ (step-sound t k z (good-sound t g) h (home_below t k g h) (moved t k g h w u))

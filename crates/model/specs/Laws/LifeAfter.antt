@@ -7,17 +7,16 @@ use native.Mathlib.Omega.{arith}
 use Rattle.std.proofs.Math.Dec.{ltb}
 use borrow.Author.Tests.{eqb-true, eqb-false}
 use Rattle.model.specs.declared.Work.{Work}
-use Rattle.model.specs.declared.Totals.{Totals}
 use Rattle.model.specs.declared.Port.{Port}
 use Rattle.model.specs.declared.Table.{Table}
 use Rattle.model.specs.declared.View.{View}
 use Rattle.model.specs.Table.{room, CS, EXIT, ABORT, no_port, port_at, put_port, latest, read_spin, fresh_table, Sized}
 use Rattle.model.specs.Points.{Tens, two, three, four, Point, none, p0, p1, p2, p3, p4, p5, p6, p8, p9, p10, p11, p12, p13, p14, p15, p16, p17, p18, p19, x0, x1, x2, x3, x4, x5, tens, back, point_of, own_place, settled}
 use Rattle.model.specs.Good.{named}
-use Rattle.model.specs.Step.{at, with_flag, with_value, with_work, with_totals, unasked}
+use Rattle.model.specs.Step.{at, with_flag, with_value, with_work, unasked}
 use Rattle.model.specs.Event.{ordered}
 use Rattle.model.specs.Parts.Moves.{up, bit, step}
-use Rattle.model.specs.Parts.Steps.{move_of, own_left, stepped}
+use Rattle.model.specs.Parts.Steps.{move_of, stepped}
 use Rattle.model.specs.Run.{Order, after}
 use Rattle.model.specs.Laws.Tests.{split}
 use Rattle.model.specs.Laws.Rules.{port-rules}
@@ -69,15 +68,15 @@ value_set {p} l =
 
 -- a port of which only the point and the working values change
 module _ (p : Port) (l : Life p) where
-  moved : (w : Work) (s : Totals) (n : ℕ) → named n ≡ true → Standing (point_of n) p.status p.go w.own p.value p.flag
-      → Life (at n (with_totals s (with_work w p)))
-  moved w s n e r = record { point = e; row = r; latest = l.latest; critical = l.critical; aborted = l.aborted }
+  moved : (w : Work) (n : ℕ) → named n ≡ true → Standing (point_of n) p.status p.go w.own p.value p.flag
+      → Life (at n (with_work w p))
+  moved w n e r = record { point = e; row = r; latest = l.latest; critical = l.critical; aborted = l.aborted }
 
   -- an event that is no step
   ordered-life : {e : ℕ} → Allowed e p → Life (ordered e p)
   unfolding named number_of_point
-  ordered-life (enters _ _ _ q) = rw q (moved p.work _ 1 refl tt)
-  ordered-life (crashes _ _ q) = rw q (moved _ _ 1 refl tt)
+  ordered-life (enters _ _ _ q) = rw q (moved p.work 1 refl tt)
+  ordered-life (crashes _ _ q) = rw q (moved _ 1 refl tt)
   ordered-life (calls_off _ n q) =
       rw q
       (record {
@@ -89,7 +88,7 @@ module _ (p : Port) (l : Life p) where
       })
   ordered-life (leaves _ n q) =
       let r = row_at p11 l (ap point_of n) in
-      rw q (moved p.work _ 13 refl (omega arith))
+      rw q (moved p.work 13 refl (omega arith))
 
 -- port p may come to point n, with own spin o where that has a place there
 abbrev Next : Port → ℕ → ℕ → Type 0
@@ -123,7 +122,7 @@ module _ (v : View) (l : Life v.own) (known : v.own.status ≤ ABORT) where
 
   to : (w : Work) (n : ℕ) → Next me w.own n → Life (settled (at n (with_work w me)))
   unfolding settled
-  to w n r = moved me l _ _ n r.0 r.1
+  to w n r = moved me l _ n r.0 r.1
 
   either : (w : Work) (b : Bool) (m n : ℕ) → (b ≡ true → Next me w.own m) → (b ≡ false → Next me w.own n)
       → Life (settled (at (cond b m n) (with_work w me)))
@@ -222,23 +221,18 @@ left-life : {t : Table} {k j : ℕ} {p : Port} → Life p → Left t k j p → L
 left-life l (unset e) = rw e l
 left-life l (set_one _ e) = rw e (value_set l)
 
--- totals are no part of it
-totals-life : {p : Port} (s : Totals) → Life p → Life (with_totals s p)
-totals-life s l = record { point = l.point; row = l.row; latest = l.latest; critical = l.critical; aborted = l.aborted }
-
 -- a table of such ports
 module _ (t : Table) (o : Order) (s : Sized t) (l : (j : ℕ) → Life (port_at t j)) where
-  own-life : Stepped t o → Life (own_left t o.port)
+  own-life : Stepped t o → Life (settled (move_of t o.port).own)
   unfolding number_of_point
   own-life c =
       let n = (port_at t o.port).point in
       let mine = l o.port in
-      totals-life {p = settled (move_of t o.port).own} _
-      (rw (move_at t o.port (point_of n) refl)
+      rw (move_at t o.port (point_of n) refl)
       (own-step (sight_of t o.port _) mine (port-rules t o.port c.sound c.port).status (point_of n)
       (λ e. c.busy (number n p0 mine.point e))
       (λ e. c.outside (number n p11 mine.point e))
-      mine.row))
+      mine.row)
 
   -- every order leaves such ports
   pub life-after : (j : ℕ) → Life (port_at (after t o) j)

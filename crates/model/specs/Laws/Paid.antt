@@ -3,7 +3,6 @@ use Rattle.std.specs.Prelude.{◌≡◌, Bool, cond, not, ℕ, ◌≤◌, eqb, l
 use Rattle.std.proofs.Math.Path.{refl}
 use Rattle.std.proofs.Math.Bool.{true, false}
 use borrow.Author.Tests.{leb-false, le-leb, lt-ltb}
-use Rattle.model.specs.declared.Totals.{Totals}
 use Rattle.model.specs.declared.Table.{Table}
 use Rattle.model.specs.declared.Outcome.{Outcome}
 use Rattle.model.specs.declared.Answer.TheVariants.{BadTable, NoSuchPort}
@@ -11,7 +10,7 @@ use Rattle.model.specs.Table.{Sized, port_at, size_good}
 use Rattle.model.specs.Good.{whole, good}
 use Rattle.model.specs.Cost.{free}
 use Rattle.model.specs.Event.{number_of, first_of, refusals, refusal, stepping, event}
-use Rattle.model.specs.Paid.{placed, paid_answer, paid_refusal, paid_event}
+use Rattle.model.specs.Paid.{placed, paid_answer, paid_event}
 use Rattle.model.specs.Laws.Tests.{split}
 use Rattle.model.specs.Laws.Stepped.{carried-parts}
 use Rattle.model.specs.Laws.Rules.{shared-rules, port-rules}
@@ -23,7 +22,7 @@ pub paid-sized : (t : Table) (k e : ℕ) → Sized t → Sized (paid_event t k e
 unfolding paid_event
 paid-sized t k e s =
     rw (carried-parts t k e) (
-    split (λ (o : Outcome). Sized o.table) (eqb (number_of (paid_refusal t k e)) 0) _ _
+    split (λ (o : Outcome). Sized o.table) (eqb (number_of (paid_answer t.shared k e (port_at t k))) 0) _ _
     (λ n. split (λ (o : Outcome). Sized o.table) (eqb e stepping) _ _ (λ q. step-sized t k s) (λ q. put-sized t k _ s))
     (λ n. s)
     )
@@ -31,24 +30,23 @@ paid-sized t k e s =
 -- its costs are at most 1
 pub paid-cost : (t : Table) (k e : ℕ) → ((paid_event t k e).cached ≤ 1) × ((paid_event t k e).distributed ≤ 1)
 unfolding paid_event
-paid-cost t k e = split Small (eqb (number_of (paid_refusal t k e)) 0) _ _ (λ n. carried-cost t k e) (λ n. nothing)
+paid-cost t k e = split Small (eqb (number_of (paid_answer t.shared k e (port_at t k))) 0) _ _ (λ n. carried-cost t k e) (λ n. nothing)
 
 module _ (t : Table) (k e : ℕ) (g : good t ≡ true) where
   -- what it answers, at a port that there is and at one that there isn't
-  at-port : (s : Totals) (b : Bool) → leb t.shared.d k ≡ b
-      → cond b NoSuchPort (cond (not (placed t.shared.d (port_at t k))) (BadTable whole) (first_of (refusals e (port_at t k) s)))
-      ≡ cond b NoSuchPort (first_of (refusals e (port_at t k) s))
+  at-port : (b : Bool) → leb t.shared.d k ≡ b
+      → cond b NoSuchPort (cond (not (placed t.shared.d (port_at t k))) (BadTable whole) (first_of (refusals e (port_at t k)))) ≡ cond b NoSuchPort (first_of (refusals e (port_at t k)))
   unfolding placed
-  at-port s true q = refl
-  at-port s false q =
+  at-port true q = refl
+  at-port false q =
       let p = port-rules t k g (leb-false _ _ q) in
       rw (lt-ltb _ _ p.seenowner, lt-ltb _ _ p.candidate, le-leb _ _ p.made)
 
-  paid-answer : paid_refusal t k e ≡ refusal t k e
-  unfolding paid_answer paid_refusal refusal first_of size_good
+  paid-answer : paid_answer t.shared k e (port_at t k) ≡ refusal t k e
+  unfolding paid_answer refusal first_of size_good
   paid-answer =
       let r = shared-rules t g in
-      rw (g, le-leb _ _ r.some, le-leb _ _ r.fits, r.active) (at-port _ (leb t.shared.d k) refl)
+      rw (g, le-leb _ _ r.some, le-leb _ _ r.fits, r.active) (at-port (leb t.shared.d k) refl)
 
   -- it is the event
   pub paid-event : paid_event t k e ≡ event t k e

@@ -13,7 +13,7 @@ use Rattle.model.specs.Points.{Tens, Point, none, p0, p1, p2, p3, p4, p5, p6, p8
 use Rattle.model.specs.Step.{with_value}
 use Rattle.model.specs.Parts.Moves.{step}
 use Rattle.model.specs.Parts.Charges.{touch_at}
-use Rattle.model.specs.Parts.Steps.{touch_of, home_of, move_of, view_of, marks, marked, own_left, stepped}
+use Rattle.model.specs.Parts.Steps.{touch_of, home_of, move_of, view_of, marks, marked, stepped}
 use Rattle.model.specs.Laws.Tests.{split}
 use Rattle.model.specs.Laws.Own.{home_at}
 
@@ -105,12 +105,12 @@ made_inside t j n = elim (dec_lt j (length t.ports)) [
 
 -- what stands at port j after the step of port k, where p stands there once the settled record of k is put at k: p, with value 1 where the
 -- step sets it
-port-after : (t : Table) (k j : ℕ) (p : Port) → port_at (put_port t k (own_left t k)) j ≡ p
+port-after : (t : Table) (k j : ℕ) (p : Port) → port_at (put_port t k (settled (move_of t k).own)) j ≡ p
     → port_at (stepped t k).table j ≡ cond (sets t k j) (with_value 1 p) p
 unfolding stepped marked sets
 port-after t k j p e =
     change-at (marks t k)
-    (set t.ports k (own_left t k))
+    (set t.ports k (settled (move_of t k).own))
     (home_of t k)
     j
     (with_value 1)
@@ -119,7 +119,7 @@ port-after t k j p e =
 
 -- at k its own record stands, settled, and at another port what stood there; with value 1 where the step sets it
 pub own-after : (t : Table) (k : ℕ) → Sized t → k < room
-    → port_at (stepped t k).table k ≡ cond (sets t k k) (with_value 1 (own_left t k)) (own_left t k)
+    → port_at (stepped t k).table k ≡ cond (sets t k k) (with_value 1 (settled (move_of t k).own)) (settled (move_of t k).own)
 own-after t k s h = port-after t k k _ (put-own t k _ s h)
 
 pub other_after : (t : Table) (k j : ℕ) → (j ≡ k → ⊥)
@@ -138,7 +138,7 @@ left t k j p = go (sets t k j) refl
     go true q e = set_one (sets-only t k j q) e
     go false q e = unset e
 
-pub own-left : (t : Table) (k : ℕ) → Sized t → k < room → Left t k k (own_left t k)
+pub own-left : (t : Table) (k : ℕ) → Sized t → k < room → Left t k k (settled (move_of t k).own)
 own-left t k s h = left t k k _ (own-after t k s h)
 
 pub other-left : (t : Table) (k j : ℕ) → (j ≡ k → ⊥) → Left t k j (port_at t j)

@@ -4,11 +4,11 @@ use Rattle.std.proofs.Common.{sym, ap, ◌∙◌, le_trans, ltb-true, leb-true, 
 use Rattle.std.proofs.Math.Bool.{and-eq-true_iff}
 use Rattle.std.proofs.lemmas.Bool.{not-true}
 use Rattle.model.specs.declared.Table.{Table}
-use Rattle.model.specs.Table.{room, most, fullest, ABORT, port_at, copies_at, size_good}
+use Rattle.model.specs.Table.{room, most, ABORT, port_at, copies_at, size_good}
 use Rattle.model.specs.Mask.{stands, within}
 use Rattle.model.specs.Points.{Tens, two, three, four, tens, one_of, candidate_spin_place}
 use Rattle.model.specs.Good.{every_below, named, good}
-use Rattle.model.specs.Parts.Good.{shared_good, fields_good, work_good, copies_good, totals_good, port_good, place_good, all_good}
+use Rattle.model.specs.Parts.Good.{shared_good, fields_good, work_good, copies_good, port_good, place_good, all_good}
 use Rattle.model.specs.Laws.Tests.{conjunct, implied, every-below}
 use Rattle.model.specs.Laws.Listed.{good-all}
 
@@ -63,8 +63,6 @@ pub record PortRules (t : Table) (k : ℕ) : Type 0 where
   pub gocopies : within t.shared.d (copies_at t k).go ≡ true
   pub spincopies : within t.shared.d (copies_at t k).spin ≡ true
   pub unmadecopies : (port_at t k).made ≡ 0 → (copies_at t k).spin ≡ 0
-  pub cached : (port_at t k).totals.cached ≤ fullest
-  pub distributed : (port_at t k).totals.distributed ≤ fullest
 
 -- 25, 35 and 45 are the points that the rule of the seen spin names
 setting-point : (x : Tens) (n : ℕ) → n ≡ tens x + 5 → one_of n (25 ∷ 35 ∷ 45 ∷ []) ≡ true
@@ -81,13 +79,12 @@ port-good t k e h =
     rw (lt-ltb k t.shared.d h) at (every-below room (place_good t) places k (le_trans h (shared-rules t e).fits))
 
 pub port-rules : (t : Table) (k : ℕ) → good t ≡ true → k < t.shared.d → PortRules t k
-unfolding fields_good work_good copies_good totals_good
+unfolding fields_good work_good copies_good
 port-rules t k e h =
-    let groups = conjunct _ (_ ∷ _ ∷ _ ∷ []) (port-good t k e h) in
+    let groups = conjunct _ (_ ∷ _ ∷ []) (port-good t k e h) in
     let fields = conjunct _ (_ ∷ _ ∷ _ ∷ _ ∷ _ ∷ _ ∷ _ ∷ _ ∷ _ ∷ []) (groups 0) in
     let work = conjunct _ (_ ∷ _ ∷ _ ∷ _ ∷ _ ∷ _ ∷ _ ∷ _ ∷ _ ∷ _ ∷ []) (groups 1) in
     let copies = conjunct _ (_ ∷ _ ∷ _ ∷ []) (groups 2) in
-    let sums = conjunct _ (_ ∷ []) (groups 3) in
     record {
       point = fields 0;
       status = leb-true _ _ (fields 1);
@@ -110,6 +107,4 @@ port-rules t k e h =
       gocopies = copies 1;
       spincopies = copies 2;
       unmadecopies = λ q. eqb-true _ _ (implied _ _ (copies 3) (eq-eqb _ _ q));
-      cached = leb-true _ _ (sums 0);
-      distributed = leb-true _ _ (sums 1);
     }

@@ -5,17 +5,15 @@ use Rattle.std.proofs.Math.Bool.{and-eq-true_iff}
 use Rattle.std.proofs.Math.Decide.{dec_lt}
 use Rattle.model.specs.declared.Word.{Word}
 use Rattle.model.specs.declared.Work.{Work}
-use Rattle.model.specs.declared.Totals.{Totals}
 use Rattle.model.specs.declared.Port.{Port}
 use Rattle.model.specs.declared.Copies.{Copies}
 use Rattle.model.specs.declared.Shared.{Shared}
 use Rattle.model.specs.declared.Table.{Table}
-use Rattle.model.specs.Table.{room, most, fullest, ABORT, port_at, copies_at, size_good}
+use Rattle.model.specs.Table.{room, most, ABORT, port_at, copies_at, size_good}
 use Rattle.model.specs.Mask.{stands}
 use Rattle.model.specs.Points.{one_of, own_place, seen_place, candidate_place, candidate_spin_place}
 use Rattle.model.specs.Good.{every_below, implies, named, good}
-use Rattle.model.specs.Step.{with_totals}
-use Rattle.model.specs.Parts.Good.{shared_good, fields_good, work_good, copies_good, totals_good, port_empty, port_good, place_good, all_good}
+use Rattle.model.specs.Parts.Good.{shared_good, fields_good, work_good, copies_good, port_empty, port_good, place_good, all_good}
 use Rattle.model.specs.Laws.Tests.{◌and◌, implying, conjunct, every-below, below-every}
 use Rattle.model.specs.Laws.Mask.{within-lt, lt-within}
 use Rattle.model.specs.Laws.Listed.{good-all}
@@ -44,8 +42,6 @@ pub record Bounds (d : ℕ) (made : ℕ → ℕ) (p : Port) : Type 0 where
   pub own : p.work.own ≤ p.made
   pub seenspin : p.work.seenspin ≤ made p.work.seenowner
   pub candidatespin : p.work.candidatespin ≤ made p.work.candidate
-  pub cached : p.totals.cached ≤ fullest
-  pub distributed : p.totals.distributed ≤ fullest
 
 -- the rules for the point of a port with this bit in ACTIVE, flag and seen spin: it is named; at 0 the flag is 0, at 6 the bit is clear, at 15 it
 -- is set, at x5 the seen spin is above 0
@@ -69,11 +65,6 @@ pub record Fit (d : ℕ) (made : ℕ → ℕ) (bit : Bool) (p : Port) : Type 0 w
   pub bounds : Bounds d made p
   pub enters : Enters bit p.point p.flag p.work.seenspin
   pub rests : Rests p.point p.work
-
--- with other totals too, which are no higher than the highest
-pub totals-fit : {d : ℕ} {made : ℕ → ℕ} {bit : Bool} {p : Port} (s : Totals) → s.cached ≤ fullest → s.distributed ≤ fullest → Fit d made bit p
-    → Fit d made bit (with_totals s p)
-totals-fit s a b f = record { bounds = omega (arith, f.bounds); enters = f.enters; rests = f.rests }
 
 -- no bit at D or above stands in the copy sets of what all share, and of a port's words
 pub record SharedCopies (d : ℕ) (s : Shared) : Type 0 where
@@ -120,7 +111,7 @@ port-bounds t k r = omega (arith, value_made _ _ r.value r.unmade)
 port-fit : (t : Table) (k : ℕ) → good t ≡ true → k < t.shared.d → Fit t.shared.d (made_of t) (stands t.shared.active k) (port_at t k)
 unfolding fields_good work_good copies_good one_of
 port-fit t k e h =
-    let groups = conjunct _ (_ ∷ _ ∷ _ ∷ []) (port-good t k e h) in
+    let groups = conjunct _ (_ ∷ _ ∷ []) (port-good t k e h) in
     let fields = conjunct _ (_ ∷ _ ∷ _ ∷ _ ∷ _ ∷ _ ∷ _ ∷ _ ∷ _ ∷ []) (groups 0) in
     let work = conjunct (ltb (port_at t k).work.seenowner t.shared.d) (_ ∷ _ ∷ _ ∷ _ ∷ _ ∷ _ ∷ _ ∷ _ ∷ _ ∷ _ ∷ []) (groups 1) in
     record {
@@ -149,7 +140,7 @@ good-sound t e =
 -- a table with these facts is good
 fit-good : (t : Table) (k : ℕ) → Fit t.shared.d (made_of t) (stands t.shared.active k) (port_at t k)
     → PortCopies t.shared.d (copies_at t k) × (made_of t k ≡ 0 → (copies_at t k).spin ≡ 0) → port_good t k ≡ true
-unfolding fields_good work_good copies_good totals_good one_of
+unfolding fields_good work_good copies_good one_of
 fit-good t k f c =
     let b = f.bounds in
     let e = f.enters in
@@ -179,7 +170,6 @@ fit-good t k f c =
     and lt-within _ _ c.0.go
     and lt-within _ _ c.0.spin
     and implying _ _ (λ q. eq-eqb _ _ (c.1 (eqb-true _ _ q))))
-    and (le-leb _ _ b.cached and le-leb _ _ b.distributed)
 
 pub sound-good : (t : Table) → Sound t → good t ≡ true
 unfolding all_good size_good shared_good place_good

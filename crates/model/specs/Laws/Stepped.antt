@@ -1,11 +1,10 @@
 -- A step put together from its parts is the step of document 01: point by point.
-use Rattle.std.specs.Prelude.{◌≡◌, Bool, true, false, ℕ, zero, suc, eqb, get_or, set}
+use Rattle.std.specs.Prelude.{◌≡◌, true, ℕ, zero, suc, eqb, get_or, set}
 use Rattle.std.proofs.Math.Path.{refl, ap}
-use Rattle.std.proofs.Common.{sym, ◌∙◌, eq-eqb}
+use Rattle.std.proofs.Common.{sym, eq-eqb}
 use Rattle.std.proofs.Math.Bool.{cond}
 use mathlib.Core.List.{List, [], ◌∷◌}
 use Rattle.std.proofs.lemmas.List.{set-get_or}
-use Rattle.model.specs.declared.Totals.{Totals}
 use Rattle.model.specs.declared.Port.{Port}
 use Rattle.model.specs.declared.Copies.{Copies}
 use Rattle.model.specs.declared.Shared.{Shared}
@@ -18,13 +17,13 @@ use Rattle.model.specs.Table.{copies, table, no_port, no_copies, port_at, copies
 use Rattle.model.specs.Mask.{alone}
 use Rattle.model.specs.Points.{Point, none, p0, p1, p2, p3, p4, p5, p6, p8, p9, p10, p11, p12, p13, p14, p15, p16, p17, p18, p19, x0, x1, x2, x3, x4, x5, point_of, settled}
 use Rattle.model.specs.Cost.{outcome, free}
-use Rattle.model.specs.Step.{with_value, with_totals}
+use Rattle.model.specs.Step.{with_value}
 use Rattle.model.specs.Step as Step
-use Rattle.model.specs.Event.{stepping, ordered, step_of, raised, counted, carried}
+use Rattle.model.specs.Event.{stepping, ordered, carried}
 use Rattle.model.specs.Parts.Moves.{released, granted}
 use Rattle.model.specs.Parts.Moves as Moves
 use Rattle.model.specs.Parts.Charges.{touch_at, home, charge}
-use Rattle.model.specs.Parts.Steps.{touch_of, home_of, view_of, move_of, shared_after, copies_after, charge_of, own_after, own_left, setting, marked, stepped}
+use Rattle.model.specs.Parts.Steps.{touch_of, home_of, view_of, move_of, shared_after, copies_after, charge_of, setting, marked, stepped}
 use Rattle.model.specs.Laws.Tests.{split}
 use Rattle.model.specs.Laws.Own.{sight_of}
 
@@ -34,33 +33,6 @@ put-twice : (cs : List Copies) (k : ℕ) (c : Copies) (f : Copies → Copies)
 put-twice [] k c f = refl
 put-twice (x ∷ cs) zero c f = refl
 put-twice (x ∷ cs) (suc k) c f = ap (λ (l : List Copies). x ∷ l) (put-twice cs k c f)
-
--- the record at a place changed by f
-abbrev change_at : List Port → ℕ → (Port → Port) → List Port
-change_at ps k f = set ps k (f (get_or ps k no_port))
-
--- a record put at a place and changed there; two changes in either order, which may be at the same place
-put-changed : (ps : List Port) (k : ℕ) (p : Port) (f : Port → Port) → change_at (set ps k p) k f ≡ set ps k (f p)
-put-changed [] k p f = refl
-put-changed (x ∷ ps) zero p f = refl
-put-changed (x ∷ ps) (suc k) p f = ap (λ (l : List Port). x ∷ l) (put-changed ps k p f)
-
-swap-changes : (ps : List Port) (j k : ℕ) (f g : Port → Port) → ((p : Port) → f (g p) ≡ g (f p))
-    → change_at (change_at ps j f) k g ≡ change_at (change_at ps k g) j f
-swap-changes [] j k f g e = refl
-swap-changes (x ∷ ps) zero zero f g e = ap (λ (p : Port). p ∷ ps) (sym (e x))
-swap-changes (x ∷ ps) zero (suc k) f g e = refl
-swap-changes (x ∷ ps) (suc j) zero f g e = refl
-swap-changes (x ∷ ps) (suc j) (suc k) f g e = ap (λ (l : List Port). x ∷ l) (swap-changes ps j k f g e)
-
--- so totals may be put at port k before or after the latest spin of port j is set, which is done where b says so
-count-marked : (b : Bool) (ps : List Port) (j k : ℕ) (p : Port) (s : Totals)
-    → change_at (cond b (change_at (set ps k p) j (with_value 1)) (set ps k p)) k (with_totals s)
-    ≡ cond b (change_at (set ps k (with_totals s p)) j (with_value 1)) (set ps k (with_totals s p))
-count-marked false ps j k p s = put-changed ps k p (with_totals s)
-count-marked true ps j k p s =
-    swap-changes (set ps k p) j k (with_value 1) (with_totals s) (λ q. refl)
-    ∙ ap (λ (l : List Port). change_at l j (with_value 1)) (put-changed ps k p (with_totals s))
 
 module _ (t : Table) (k : ℕ) where
   abbrev me : Port
@@ -132,27 +104,7 @@ module _ (t : Table) (k : ℕ) where
       (λ e. rw e)
       (λ e. rw e (put_back _ me.work.seenowner t.shared 1 _))
 
-  -- the step with its costs added to the totals of its port
-  count-whole : (q : Point)
-      → counted k me.totals (whole q)
-      ≡ outcome (table (marked_at q (set t.ports k (own_after (move_at q).own (charge_at q) me.totals)))
-      (set t.copies (there q) (charge_at q).copies) (charge_at q).shared)
-      (charge_at q).cached (charge_at q).distributed Done
-  unfolding counted
-  count-whole q =
-      ap (λ (ps : List Port). outcome (table ps (set t.copies (there q) (charge_at q).copies) (charge_at q).shared) (charge_at q).cached (charge_at q).distributed Done)
-      (count-marked (setting (move_at q) (port_at t (there q)) me.work) t.ports (there q) k (settled (move_at q).own) (raised me.totals (whole q)))
-
-  pub counted-parts : counted k me.totals (step_of t k) ≡ stepped t k
-  unfolding stepped touch_of home_of view_of move_of charge_of marked
-  counted-parts = ap (counted k me.totals) (step-whole (point_of me.point)) ∙ count-whole (point_of me.point)
-
   -- an event that is not refused, with its step put together
   pub carried-parts : (e : ℕ) → carried t k e ≡ cond (eqb e stepping) (stepped t k) (free Done (put_port t k (ordered e (port_at t k))))
-  unfolding carried
-  carried-parts e = ap (λ o. cond (eqb e stepping) o (free Done (put_port t k (ordered e (port_at t k))))) counted-parts
-
-  -- what its totals would be
-  pub raised-parts : raised me.totals (step_of t k) ≡ (own_left t k).totals
-  unfolding touch_of home_of view_of move_of charge_of
-  raised-parts = ap (raised me.totals) (step-whole (point_of me.point))
+  unfolding carried stepped touch_of home_of view_of move_of charge_of marked
+  carried-parts e = ap (λ o. cond (eqb e stepping) o (free Done (put_port t k (ordered e (port_at t k))))) (step-whole (point_of (port_at t k).point))

@@ -1,6 +1,6 @@
 -- Laws of tests: one of a chain, one that passes for every number below another, and a choice.
-use Rattle.std.specs.Prelude.{◌≡◌, refl, Bool, true, false, cond, ◌&&◌, ◌||◌, List, [], ◌∷◌, ℕ, zero, suc, ◌<◌, get_or}
-use Rattle.std.proofs.Common.{◌∙◌, ap, true≢false, not-suc-le-zero, arith}
+use Rattle.std.specs.Prelude.{◌≡◌, refl, Bool, true, false, cond, ◌&&◌, List, [], ◌∷◌, ℕ, zero, suc, ◌<◌, get_or}
+use Rattle.std.proofs.Common.{◌∙◌, ap, not-suc-le-zero, arith}
 use Rattle.std.proofs.Math.Bool.{and-eq-true_iff}
 use Rattle.std.proofs.lemmas.Bool.{false≢true}
 use Rattle.std.proofs.Math.Decide.{ℕ_discrete}
@@ -25,11 +25,6 @@ conjunct false (b ∷ bs) e (suc i) = absurd (false≢true (first false bs e))
 pub implied : (a b : Bool) → implies a b ≡ true → a ≡ true → b ≡ true
 implied true b e h = e
 implied false b e h = absurd (false≢true h)
-
--- two tests neither of which passes
-pub neither : (a b : Bool) → (a || b) ≡ false → (a ≡ false) × (b ≡ false)
-neither true b e = absurd (true≢false e)
-neither false b e = (refl, e)
 
 -- a test that passes for every number below n passes for each
 pub every-below : (n : ℕ) (f : ℕ → Bool) → every_below n f ≡ true → (k : ℕ) → k < n → f k ≡ true

@@ -14,7 +14,7 @@ use Rattle.model.specs.Points.{p6, point_of, candidate_place, settled}
 use Rattle.model.specs.Good.{good}
 use Rattle.model.specs.Event.{stepping, ordered}
 use Rattle.model.specs.Parts.Moves.{step}
-use Rattle.model.specs.Parts.Steps.{view_of, move_of, own_left, stepped}
+use Rattle.model.specs.Parts.Steps.{view_of, move_of, stepped}
 use Rattle.model.specs.Run.{Order, order, after, done, grants, passed_over}
 use Rattle.model.specs.Laws.Tests.{split}
 use Rattle.model.specs.Laws.Mask.{within-lt, set_own}
@@ -90,7 +90,7 @@ module _ (k : ℕ) (t : Table) (o : Order) (z : Sized t) (l : k < t.shared.d) wh
 
   stepped-spent : Stepped t o → stands t.shared.active k ≡ true → (grants t o && eqb (candidate_of t o) k) ≡ false
       → Spent k (grants t o) t (stepped t o.port).table
-  unfolding view_of strays
+  unfolding view_of
   stepped-spent c s n = go (stepped-turn c s)
     where
       d : ℕ
@@ -99,10 +99,10 @@ module _ (k : ℕ) (t : Table) (o : Order) (z : Sized t) (l : k < t.shared.d) wh
       u : Table
       u = (stepped t o.port).table
 
-      own : astray d k u o.port ≡ strays d k (own_left t o.port)
+      own : astray d k u o.port ≡ strays d k (settled (move_of t o.port).own)
       own = left-strays d k t o.port o.port _ (own-left t o.port z c.fits)
 
-      mono : (strays d k (own_left t o.port) ≡ true → astray d k t o.port ≡ true)
+      mono : (strays d k (settled (move_of t o.port).own) ≡ true → astray d k t o.port ≡ true)
           → (j : ℕ) → astray d k u j ≡ true → astray d k t j ≡ true
       mono m =
           only-port d k o.port t u (λ e. m (sym own ∙ e)) (λ j q. left-strays d k t o.port j _ (other-left t o.port j q))

@@ -5,7 +5,7 @@ use Rattle.model.specs.declared.Port.{Port}
 use Rattle.model.specs.declared.Copies.{Copies}
 use Rattle.model.specs.declared.Shared.{Shared}
 use Rattle.model.specs.declared.Table.{Table}
-use Rattle.model.specs.Table.{room, most, fullest, ABORT, size_good, port_at, copies_at}
+use Rattle.model.specs.Table.{room, most, ABORT, size_good, port_at, copies_at}
 use Rattle.model.specs.Mask.{stands, within}
 use Rattle.model.specs.Points.{one_of, own_place, seen_place, candidate_place, candidate_spin_place}
 use Rattle.model.specs.Good.{implies, every_below, named}
@@ -45,10 +45,6 @@ unfoldable pub copies_good : ℕ → ℕ → Copies → Bool
 copies_good d made c =
     within d c.status && within d c.go && within d c.spin && implies (eqb made 0) (eqb c.spin 0)
 
--- no total is above the highest
-unfoldable pub totals_good : Port → Bool
-totals_good p = leb p.totals.cached fullest && leb p.totals.distributed fullest
-
 -- room kept for ports at or above D is all 0
 unfoldable pub port_empty : Port → Copies → Bool
 port_empty p c =
@@ -56,7 +52,6 @@ port_empty p c =
     && eqb p.work.own 0 && eqb p.work.seenowner 0 && eqb p.work.seenspin 0
     && eqb p.work.candidate 0 && eqb p.work.candidatespin 0
     && eqb c.status 0 && eqb c.go 0 && eqb c.spin 0
-    && eqb p.totals.cached 0 && eqb p.totals.distributed 0
 
 -- the rules for a port that there is; those for place k, a port or room kept for one; all of them in a table
 abbrev pub port_good : Table → ℕ → Bool
@@ -64,7 +59,7 @@ port_good t k =
     fields_good t.shared.active k (port_at t k)
     && work_good t.shared.d (port_at t k).point (port_at t k).made
     (port_at t (port_at t k).work.seenowner).made (port_at t (port_at t k).work.candidate).made (port_at t k).work
-    && copies_good t.shared.d (port_at t k).made (copies_at t k) && totals_good (port_at t k)
+    && copies_good t.shared.d (port_at t k).made (copies_at t k)
 
 unfoldable pub place_good : Table → ℕ → Bool
 place_good t k = cond (ltb k t.shared.d) (port_good t k) (port_empty (port_at t k) (copies_at t k))

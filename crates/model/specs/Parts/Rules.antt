@@ -8,12 +8,12 @@ use Rattle.model.specs.declared.Shared.{Shared}
 use Rattle.model.specs.Table.{room, size_good}
 use Rattle.model.specs.Points.{one_of, own_place, seen_place, candidate_place, candidate_spin_place}
 use Rattle.model.specs.Good.{implies}
-use Rattle.model.specs.Parts.Good.{fields_good, copies_good, totals_good}
+use Rattle.model.specs.Parts.Good.{fields_good, copies_good}
 
--- its fields, its totals, its copy sets and its own spin
+-- its fields, its copy sets and its own spin
 unfoldable pub own_tests : Shared → ℕ → Port → Copies → Bool
 own_tests s k p c =
-    fields_good s.active k p && totals_good p && copies_good s.d p.made c
+    fields_good s.active k p && copies_good s.d p.made c
     && leb p.work.own p.made && implies (not (own_place p.point)) (eqb p.work.own 0)
 
 -- at a point without a place for what is seen, all of it is 0
@@ -40,8 +40,7 @@ joined_port p c =
     bit_or
     (bit_or (bit_or (bit_or c.status c.go) c.spin)
     (bit_or (bit_or (bit_or (bit_or (bit_or p.point p.status) p.flag) p.value) p.work.seenowner) p.work.candidate))
-    (bit_or (bit_or (bit_or (bit_or (bit_or (bit_or p.made p.go) p.work.own) p.work.seenspin) p.work.candidatespin)
-    p.totals.cached) p.totals.distributed)
+    (bit_or (bit_or (bit_or (bit_or p.made p.go) p.work.own) p.work.seenspin) p.work.candidatespin)
 
 -- how many ports are tested: D, or none where it is out of range
 unfoldable pub ports_of : ℕ → ℕ

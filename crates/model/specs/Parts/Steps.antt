@@ -1,7 +1,6 @@
 -- A step put together from its parts: what the port sees, what it changes, which word it touches, and what that costs.
-use Rattle.std.specs.Prelude.{Bool, cond, ◌&&◌, List, ℕ, ◌+◌, get_or, set}
+use Rattle.std.specs.Prelude.{Bool, cond, ◌&&◌, List, ℕ, get_or, set}
 use Rattle.model.specs.declared.Work.{Work}
-use Rattle.model.specs.declared.Totals.{Totals}
 use Rattle.model.specs.declared.Port.{Port}
 use Rattle.model.specs.declared.Copies.{Copies}
 use Rattle.model.specs.declared.Shared.{Shared}
@@ -12,10 +11,10 @@ use Rattle.model.specs.declared.Touch.{Touch}
 use Rattle.model.specs.declared.Charge.{Charge}
 use Rattle.model.specs.declared.Outcome.{Outcome}
 use Rattle.model.specs.declared.Answer.TheVariants.{Done}
-use Rattle.model.specs.Table.{totals, copies, shared, table, no_port, port_at, copies_at, latest}
+use Rattle.model.specs.Table.{copies, shared, table, no_port, port_at, copies_at, latest}
 use Rattle.model.specs.Points.{point_of, settled}
 use Rattle.model.specs.Cost.{outcome}
-use Rattle.model.specs.Step.{with_value, with_totals}
+use Rattle.model.specs.Step.{with_value}
 use Rattle.model.specs.Parts.Moves.{view, step}
 use Rattle.model.specs.Parts.Charges.{touch_at, home, charge}
 
@@ -44,13 +43,6 @@ charge_of t k =
     charge (touch_of t k) k (port_at t k).work (port_at t (home_of t k))
     (shared_after (move_of t k) t.shared) (copies_after (move_of t k) (copies_at t (home_of t k)))
 
--- the record of port k after its step, with what it costs added to its totals
-abbrev pub own_after : Port → Charge → Totals → Port
-own_after p x s = with_totals (totals (s.cached + x.cached) (s.distributed + x.distributed)) (settled p)
-
-abbrev pub own_left : Table → ℕ → Port
-own_left t k = own_after (move_of t k).own (charge_of t k) (port_at t k).totals
-
 -- a move sets the seen spin of the port that it touches, q; a write to an older spin changes nothing. The ports with that spin set to 1
 abbrev pub setting : Move → Port → Work → Bool
 setting m q w = m.sets && latest q w.seenspin
@@ -63,6 +55,6 @@ marked t k ps = cond (marks t k) (set ps (home_of t k) (with_value 1 (get_or ps 
 
 unfoldable pub stepped : Table → ℕ → Outcome
 stepped t k =
-    outcome (table (marked t k (set t.ports k (own_left t k)))
+    outcome (table (marked t k (set t.ports k (settled (move_of t k).own)))
     (set t.copies (home_of t k) (charge_of t k).copies) (charge_of t k).shared)
     (charge_of t k).cached (charge_of t k).distributed Done
