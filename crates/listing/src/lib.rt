@@ -1,4 +1,5 @@
 // The listing of a schedule: a run over an input that comes in pieces.
+#![tactic(auto)]
 use lines::{Part, Stage};
 use model::Table;
 

@@ -1,4 +1,5 @@
 // The table of one lock, and what its functions answer. Document 01, section 'The table'.
+#![tactic(auto)]
 
 // The most ports that a table has room for.
 pub const ROOM: usize = 64;

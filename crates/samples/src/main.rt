@@ -1,5 +1,6 @@
 // Document 01's lone passage: at D = 2 port 0 enters and makes 14 steps to be inside, leaves and makes 13 to be idle. Prints the steps, the cached and
 // the distributed costs, and the point after, for each half.
+#![tactic(auto)]
 use libc::STDOUT_FILENO;
 use lock::events;
 use model::Table;

@@ -1,5 +1,6 @@
 // Reads a schedule on standard input and prints its listing: a thin loop over the library `listing`. Input and output go in large pieces, and what a piece
 // prints is written before the next is read. Its memory does not grow with the input. Its exit status is 0, also after a malformed line: `BAD` says that.
+#![tactic(auto)]
 ghost use Rattle.std.specs.Prelude.{◌≡◌, true, ◌≤◌, ◌<◌, length, drop};
 ghost use Rattle.listing.specs.Laws.Took.{took};
 

@@ -1,4 +1,5 @@
 // Runs the vectors of images and of events, and every one-byte damage of one image; prints how many lines are right, and how often each number was answered.
+#![tactic(auto)]
 mod lines;
 mod text;
 

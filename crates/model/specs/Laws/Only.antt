@@ -2,14 +2,14 @@
 use Rattle.std.specs.Prelude.{◌≡◌, Bool, true, false, ◌||◌, List, [], ◌∷◌, eqb}
 use Rattle.std.proofs.Math.Path.{refl}
 use Rattle.std.proofs.Common.{sym, ap, subst, ◌∙◌, true≢false, le_trans}
-use Prim.Native.Nat.{ℕ, ◌≤◌}
+use Prim.Native.Nat.{ℕ, ◌+◌, ◌≤◌}
 use Rattle.std.proofs.Math.Decide.{ℕ_discrete}
 use Rattle.std.proofs.lemmas.Bool.{eqb-false}
 use Rattle.model.specs.declared.Port.{Port}
 use Rattle.model.specs.declared.Table.{Table}
 use Rattle.model.specs.Table.{room, Sized, port_at}
 use Rattle.model.specs.Mask.{stands}
-use Rattle.model.specs.Points.{two, three, four, p6, p15, tens, point_of, one_of}
+use Rattle.model.specs.Points.{Tens, two, three, four, p6, p15, tens, point_of, one_of}
 use Rattle.model.specs.Step.{with_value}
 use Rattle.model.specs.Event.{ordered}
 use Rattle.model.specs.Parts.Moves.{step}
@@ -51,7 +51,7 @@ module _ (t : Table) (o : Order) (s : Sized t) where
           let d = first-not _ 33 _ b.1 in
           let f = first-not _ 43 _ d.1 in
           (step_kept t o.port s c.fits (port-rules t o.port c.sound c.port).point).word a.0
-          (λ x. elim x [ two ↦ b.0 | three ↦ d.0 | four ↦ f.0 ])
+          (λ x. elim x as (λ (y : Tens). (port_at t o.port).point ≡ tens y + 3 → ⊥) [ two ↦ b.0 | three ↦ d.0 | four ↦ f.0 ])
 
   -- a field of a port that only steps of its own port change, and those only where the step of the order does
   field : (f : Port → ℕ) → ((p : Port) (a : ℕ) → f (with_value a p) ≡ f p) → ((e : ℕ) (p : Port) → Allowed e p → f (ordered e p) ≡ f p)
