@@ -5,7 +5,7 @@
 pub const ROOM: usize = 64;
 
 // The lock word: taken (0 or 1), owner and spin number. Its spin belongs to its owner.
-#[derive(Drop)]
+#[derive(Clone, Copy)]
 pub struct Word {
     pub spin: u16,
     pub owner: u8,
@@ -13,7 +13,7 @@ pub struct Word {
 }
 
 // The working values of a port.
-#[derive(Drop)]
+#[derive(Clone, Copy)]
 pub struct Work {
     pub own: u16,
     pub seenspin: u16,
@@ -23,7 +23,7 @@ pub struct Work {
 }
 
 // One port: its working values, the count of spins made, GO, point, STATUS, call-off flag, and the value of its latest spin.
-#[derive(Drop)]
+#[derive(Clone, Copy)]
 pub struct Port {
     pub work: Work,
     pub made: u16,
@@ -35,7 +35,7 @@ pub struct Port {
 }
 
 // The ports with a current copy of a port's STATUS, GO and latest spin: bit j for port j.
-#[derive(Drop)]
+#[derive(Clone, Copy)]
 pub struct Copies {
     pub status: u64,
     pub go: u64,
@@ -43,7 +43,7 @@ pub struct Copies {
 }
 
 // What all ports share: ACTIVE, the ports with a copy of ACTIVE and of the word, the number of ports, and the word.
-#[derive(Drop)]
+#[derive(Clone, Copy)]
 pub struct Shared {
     pub active: u64,
     pub activecopies: u64,
@@ -53,7 +53,7 @@ pub struct Shared {
 }
 
 // The table. Room for ports at or above d is all 0.
-#[derive(Drop)]
+#[derive(Clone, Copy)]
 pub struct Table {
     pub ports: [Port; ROOM],
     pub copies: [Copies; ROOM],
@@ -61,7 +61,7 @@ pub struct Table {
 }
 
 // What a step of port k can see: its own record, ACTIVE, the number of ports, GO of the port that it touches, and the word.
-#[derive(Drop)]
+#[derive(Clone, Copy)]
 pub struct View {
     pub own: Port,
     pub active: u64,
@@ -72,7 +72,7 @@ pub struct View {
 }
 
 // What a step changes: its own record, ACTIVE and the word; whether it makes a new spin, and whether it sets the seen owner's seen spin.
-#[derive(Drop)]
+#[derive(Clone, Copy)]
 pub struct Move {
     pub own: Port,
     pub active: u64,
@@ -82,7 +82,7 @@ pub struct Move {
 }
 
 // The words that a step can touch: its port's STATUS, GO and own spin, ACTIVE, the lock word, its candidate's GO and its seen owner's seen spin.
-#[derive(Drop)]
+#[derive(Clone, Copy)]
 pub enum Cell {
     Nothing,
     Status,
@@ -94,7 +94,7 @@ pub enum Cell {
     SeenSpin,
 }
 
-#[derive(Drop)]
+#[derive(Clone, Copy)]
 pub enum Kind {
     Nothing,
     Read,
@@ -104,14 +104,14 @@ pub enum Kind {
 }
 
 // Which word a point touches, and how.
-#[derive(Drop)]
+#[derive(Clone, Copy)]
 pub struct Touch {
     pub cell: Cell,
     pub kind: Kind,
 }
 
 // What a touch of a word costs in both models, and the ports with a copy of the word after it.
-#[derive(Drop)]
+#[derive(Clone, Copy)]
 pub struct Fee {
     pub set: u64,
     pub cached: u64,
@@ -119,7 +119,7 @@ pub struct Fee {
 }
 
 // What a touch costs in both models, and the copy sets after it.
-#[derive(Drop)]
+#[derive(Clone, Copy)]
 pub struct Charge {
     pub shared: Shared,
     pub copies: Copies,
@@ -128,7 +128,7 @@ pub struct Charge {
 }
 
 // What is bad in a table (request R-2): 1.0 to 1.4 by its kind, the port, and the byte of the image where the field begins.
-#[derive(Drop)]
+#[derive(Clone, Copy)]
 pub struct Fault {
     pub kind: u8,
     pub port: u8,
@@ -136,7 +136,7 @@ pub struct Fault {
 }
 
 // The answers of document 01, section 'Refusal numbers', in the order of their numbers.
-#[derive(Drop)]
+#[derive(Clone, Copy)]
 pub enum Answer {
     Done,
     BadTable(Fault),
@@ -153,7 +153,7 @@ pub enum Answer {
 }
 
 // What an event answers: the table after it, the cached and the distributed cost, and the answer.
-#[derive(Drop)]
+#[derive(Clone, Copy)]
 pub struct Outcome {
     pub table: Table,
     pub cached: u64,
@@ -162,7 +162,7 @@ pub struct Outcome {
 }
 
 // What `fresh` and a run answer: a table, and DONE or a refusal.
-#[derive(Drop)]
+#[derive(Clone, Copy)]
 pub struct Made {
     pub table: Table,
     pub answer: Answer,
