@@ -3,7 +3,7 @@
 pub mod reading;
 
 // What has been read of a line that is not ended yet: its letter, and its number so far.
-#[derive(Drop)]
+#[derive(Clone, Copy)]
 pub enum Part {
     Nothing,
     Letter(u8),
@@ -12,7 +12,7 @@ pub enum Part {
 }
 
 // Where a run stands: before its first line is read, among its events, or at its end.
-#[derive(Drop)]
+#[derive(Clone, Copy)]
 pub enum Stage {
     Opening,
     Running,
@@ -21,7 +21,7 @@ pub enum Stage {
 
 // What a run does with a byte: it keeps what it has read of a line, opens a table of so many ports, carries out an event at a port, or ends at a
 // malformed line.
-#[derive(Drop)]
+#[derive(Clone, Copy)]
 pub enum Act {
     Keep(Part),
     Open(u64),

@@ -1,0 +1,5 @@
+use borrow.Author.Rules.{rules}
+use Rattle.costs.proofs.cached.Goals as goal
+
+pub returns-in-Read : goal.returns-in-Read
+returns-in-Read c = rw c.in-Read.is c.missed.ensures

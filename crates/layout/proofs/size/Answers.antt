@@ -1,0 +1,7 @@
+use Rattle.model.specs.Layout.{size}
+use borrow.Author.Rules.{rules}
+use Rattle.layout.proofs.size.Goals as goal
+
+pub returns : goal.returns
+unfolding size
+returns c = c.copies_place.ensures

@@ -1,0 +1,8 @@
+use Rattle.std.proofs.Common.{◌%◌, rules}
+use Rattle.model.specs.Mask.{alone}
+use Rattle.model.specs.Laws.Mask.{or-joined}
+use Rattle.masks.proofs.joined.Goals as goal
+
+pub returns : goal.returns
+unfolding alone
+returns c = rw c.alone.ensures (or-joined c.args.m (c.args.k % 64))

@@ -1,0 +1,27 @@
+use borrow.Author.Rules.{rules}
+use Prim.Native.Nat.{◌*◌, ◌≤◌}
+use native.Mathlib.Nat.{mul-le-mul}
+use native.Mathlib.Omega.{arith}
+use Rattle.layout.specs.Laws.Inside.{places-small}
+use Rattle.rules.proofs.faults.copies_field.Goals as goal
+
+pub overflow_mul-at : goal.overflow_mul-at
+overflow_mul-at c =
+    let s = c in
+    let w : s.args.before * c.set_width.result ≤ 2 * 8 = mul-le-mul s.requires c.set_width.ensures.upper_bound in
+    omega (arith, w)
+
+pub overflow_add-at : goal.overflow_add-at
+overflow_add-at c =
+    let s = c in
+    let w : s.args.before * c.set_width.result ≤ 2 * 8 = mul-le-mul s.requires c.set_width.ensures.upper_bound in
+    omega (arith, w, c.copies_place.ensures, (places-small s.args.d s.args.k s.ranges.d.fits s.ranges.k.fits).1)
+
+pub overflow_cast-result : goal.overflow_cast-result
+overflow_cast-result c =
+    let s = c in
+    let w : s.args.before * c.set_width.result ≤ 2 * 8 = mul-le-mul s.requires c.set_width.ensures.upper_bound in
+    omega (arith, w, c.copies_place.ensures, (places-small s.args.d s.args.k s.ranges.d.fits s.ranges.k.fits).1)
+
+pub returns : goal.returns
+returns c = rw (c.copies_place.ensures, c.set_width.ensures.value)

@@ -1,0 +1,12 @@
+use borrow.Author.Rules.{rules}
+use Rattle.model.specs.Parts.Good.{copies_good}
+use Rattle.rules.proofs.good.copies_good.Goals as goal
+
+pub returns : goal.returns
+unfolding copies_good
+returns c =
+    rw (
+      c.within-3.ensures,
+      c.within-2.ensures,
+      c.within.ensures,
+    )

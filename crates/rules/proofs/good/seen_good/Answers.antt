@@ -1,0 +1,21 @@
+use borrow.Author.Rules.{rules}
+use mathlib.Core.Bool.{not-not, or-false, or_assoc}
+use Rattle.points.specs.Places.{candidate-table, candidate-spin-table}
+use Rattle.model.specs.Parts.Rules.{seen_tests}
+use Rattle.rules.proofs.good.seen_good.Goals as goal
+
+pub returns : goal.returns
+unfolding seen_tests
+returns c =
+    let s = c in
+    simp (
+      c.has-2.ensures,
+      c.has.ensures,
+      c.wide-2.ensures,
+      c.wide.ensures,
+      candidate-table s.args.point,
+      candidate-spin-table s.args.point,
+      not-not,
+      or-false,
+      or_assoc,
+    )
