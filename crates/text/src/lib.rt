@@ -13,7 +13,7 @@ mod putting;
 pub const LONGEST: usize = 256;
 
 // What is printed for an event: the line's number, the event's letter and port, the answer, the port's point, what all ports share, and both costs.
-#[derive(Drop)]
+#[derive(Clone, Copy)]
 pub struct Row {
     pub number: u64,
     pub port: u64,
