@@ -33,7 +33,7 @@ pub fn tried(v: View) -> Move
 
 // What a step leaves: its port's record, what all share, the copy sets of the port that it touched, whether that port's latest spin is set to 1, and
 // both costs.
-#[derive(Drop)]
+#[derive(Clone, Copy)]
 pub struct Left {
     pub own: Port,
     pub shared: Shared,

@@ -36,6 +36,7 @@ fn named(number: u64, bad: Fault) -> Answer
 }
 
 // An event on any table, at any port, of any number: a check of the table, and one order. All stands in one body: a call that took the table would copy it.
+#[tactic(auto, unfolding(model::specs::Table::room))]
 pub fn event(mut table: Table, port: u64, event: u64) -> Outcome
     ensures { result ≡ Event.event table port event }
 {

@@ -12,7 +12,7 @@ const BAD_TABLE: u64 = 1;
 
 // What an order leaves: its port's record, the copy sets of the port that it touched, what all share, whether that port's latest spin is set to 1, and the
 // order's answer with both costs in one number.
-#[derive(Drop)]
+#[derive(Clone, Copy)]
 pub struct Acted {
     pub own: Port,
     pub copies: Copies,

@@ -30,6 +30,7 @@ fn answer(sound: bool, bad: Fault) -> Answer
 // Carries out orders on any table, with one check of it: as many as there are pairs of port and event and places for their answers. answers[i] is what order
 // i answers: its number, 256 times its cached and 65,536 times its distributed cost. A bad table is refused, and nothing is changed. All stands in one body:
 // a call that took the table would copy it.
+#[tactic(auto, unfolding(model::specs::Table::room))]
 pub fn run(mut table: Table, orders: &[u64], answers: &mut [u64]) -> Made
     ensures value { result ≡ Run.run table (Run.orders_for orders.now answers.old) }
     ensures answers_after { answers.new ≡ Run.run_answers table (Run.orders_for orders.now answers.old) answers.old }

@@ -1,0 +1,5 @@
+use borrow.Author.Rules.{rules}
+use Rattle.lock.proofs.steps.after_status.Goals as goal
+
+pub returns : goal.returns
+returns c = cc

@@ -1,0 +1,9 @@
+-- `lock::steps::looked` meets its contract: each return is a side of the choice.
+use borrow.Author.Rules.{rules}
+use Rattle.lock.proofs.steps.looked.Goals as goal
+
+pub returns-then-v : goal.returns-then-v
+returns-then-v c = rw c.if-v.true
+
+pub returns : goal.returns
+returns c = rw c.if-v.false
