@@ -21,12 +21,14 @@ const DEFINITIONS: &str = include_str!("../../../../crates/model/specs/Event.ant
 const CALLS: &str = include_str!("../../../yarvelow/tests/header.c");
 
 /// The answers and events of the definitions, named as in the header, with their numbers. The lines are like these:
-/// `numberOf (BadTable f) = 1`, `numberOf Idle = 7` and `callOff = 4`.
+/// `number_of (BadTable f) = 1`, `number_of Idle = 7` and `call_off = 4`.
 fn defined() -> Vec<(String, u64)> {
     let definition = |line: &str| {
         let (left, right) = line.split_once(" = ")?;
         let number = right.parse().ok()?;
-        let case = left.trim_start_matches("numberOf ").trim_start_matches('(');
+        let case = left
+            .trim_start_matches("number_of ")
+            .trim_start_matches('(');
         let mut name = String::from("YARVELOW");
         for (i, c) in case.split(' ').next()?.chars().enumerate() {
             if i == 0 || c.is_uppercase() {
