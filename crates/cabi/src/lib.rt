@@ -90,8 +90,9 @@ pub extern "C" fn yarvelow_event_into(image: &[u8], next: &mut [u8], port: u64, 
     if next.len() < n {
         return SHORT_ROOM;
     }
-    bytes::copy(image, next);
-    acts::carry_in(&mut next[..n], d, port as u8, event)
+    let start = &mut next[..n];
+    start.copy_from_slice(image);
+    acts::carry_in(start, d, port as u8, event)
 }
 
 fn least(a: usize, b: usize) -> usize

@@ -1,0 +1,17 @@
+use borrow.Author.Rules.{rules}
+use Rattle.cabi.proofs.acts.put_front.Goals as goal
+
+pub returns-in-Add : goal.returns-in-Add
+returns-in-Add c = rw c.in-Add.is c.put_active.ensures
+
+pub returns-in-Swap : goal.returns-in-Swap
+returns-in-Swap c = rw c.in-Swap.is c.put_word.ensures
+
+pub returns-in-Nothing : goal.returns-in-Nothing
+returns-in-Nothing c = rw c.in-Nothing.is
+
+pub returns-in-Read : goal.returns-in-Read
+returns-in-Read c = rw c.in-Read.is
+
+pub returns-in-Write : goal.returns-in-Write
+returns-in-Write c = rw c.in-Write.is
