@@ -10,7 +10,7 @@ use Rattle.model.specs.Table.{room, table, no_port, no_copies, fresh_table}
 use Rattle.model.specs.Good.{good, bad_in}
 use Rattle.model.specs.Event.{number_of}
 use Rattle.model.specs.Bytes.{sum, pack, unpack, unpacks}
-use Rattle.model.specs.Layout.{shared_widths, port_widths, copied_widths, copies_widths, head_widths, shared_values, port_values, copied_values, copies_values, head_values, shared_of, port_of, copies_of, port_place, copies_place, size, dIn, is_image}
+use Rattle.model.specs.Layout.{shared_widths, port_widths, copied_widths, copies_widths, head_widths, shared_values, port_values, copied_values, copies_values, head_values, shared_of, port_of, copies_of, port_place, copies_place, size, d_in, is_image}
 use Rattle.image.specs.declared.Written.{Written}
 
 -- the image of a table
@@ -34,7 +34,7 @@ refused a = record { table = fresh_table 1; answer = a }
 -- reading: BAD IMAGE, then BAD TABLE; else the table that the bytes stand for
 unfoldable pub decode : List ℕ → Made
 decode bs =
-    let t = held (dIn bs) bs in
+    let t = held (d_in bs) bs in
     cond (is_image bs) (cond (good t) (record { table = t; answer = Done }) (refused (BadTable (bad_in t)))) (refused BadImage)
 
 -- what writing answers to a room of n bytes: BAD TABLE, then SHORT ROOM

@@ -77,9 +77,9 @@ head_values d = version d ∷ d ∷ sum head_widths ∷ sum shared_widths ∷ po
     ∷ port_place d ∷ (sum (copied_widths d) + d * sum (copies_widths d)) ∷ []
 
 -- D as the bytes have it; D, length, and every number of the head are right
-unfoldable pub dIn : List ℕ → ℕ
-dIn bs = get_or (unpack head_widths bs) 1 0
+unfoldable pub d_in : List ℕ → ℕ
+d_in bs = get_or (unpack head_widths bs) 1 0
 
 unfoldable pub is_image : List ℕ → Bool
-is_image bs = size_good (dIn bs) && eqb (length bs) (size (dIn bs))
-    && foldr ◌&&◌ true (zip_with eqb (unpack head_widths bs) (head_values (dIn bs)))
+is_image bs = size_good (d_in bs) && eqb (length bs) (size (d_in bs))
+    && foldr ◌&&◌ true (zip_with eqb (unpack head_widths bs) (head_values (d_in bs)))

@@ -2,7 +2,7 @@
 use Rattle.std.specs.Prelude.{cond, List, [], ℕ, ◌+◌, leb, length, drop, replicate}
 use Rattle.std.proofs.lemmas.List.Edits.{sets}
 use Rattle.model.specs.Bytes.{sum, pack, unpack}
-use Rattle.model.specs.Layout.{dIn, is_image}
+use Rattle.model.specs.Layout.{d_in, is_image}
 
 -- the values of the record at a place; none where the bytes end before it
 unfoldable pub there : List ℕ → ℕ → List ℕ → List ℕ
@@ -18,4 +18,4 @@ filled n vs = sets (replicate n 0) 0 vs
 
 -- D of an image, and 0 of bytes that are none
 unfoldable pub ports_in : List ℕ → ℕ
-ports_in bs = cond (is_image bs) (dIn bs) 0
+ports_in bs = cond (is_image bs) (d_in bs) 0

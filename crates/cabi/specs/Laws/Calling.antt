@@ -20,7 +20,7 @@ use Rattle.model.specs.Laws.Cases.{refused-free}
 use Rattle.model.specs.Laws.After.{after-sized, after-d}
 use Rattle.model.specs.Laws.Kept.{good-after}
 use Rattle.model.specs.Bytes.{Bytes}
-use Rattle.model.specs.Layout.{dIn}
+use Rattle.model.specs.Layout.{d_in}
 use Rattle.records.specs.Records.{ports_in}
 use Rattle.records.specs.Laws.Head.{image-tests}
 use Rattle.image.specs.Image.{held, encode, decode, room_after}
@@ -69,7 +69,7 @@ pub accepted-holds : (bs : List ℕ) (n d : ℕ) → n ≡ number_of (decode bs)
 unfolding ports_in
 accepted-holds bs n d a z e =
     let h = accepted-image bs (sym a ∙ z) in
-    let q : d ≡ dIn bs = e ∙ d-byte bs in
+    let q : d ≡ d_in bs = e ∙ d-byte bs in
     record { ports = q ∙ rw h.0; some = rw q (image-tests bs h.0).some; sound = rw q h.1 }
 
 -- the image of a good table

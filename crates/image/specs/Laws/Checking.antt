@@ -19,7 +19,7 @@ use Rattle.model.specs.Laws.Tests.{below-every}
 use Rattle.model.specs.Laws.Listed.{rules_at, good-all}
 use Rattle.model.specs.Laws.Faults.{bad-append}
 use Rattle.rules.specs.Check.{port-whole, work-made, shared-made, bad_below, shared-any, port-any}
-use Rattle.model.specs.Layout.{port_widths, port_values, copies_values, port_of, port_place, dIn, is_image}
+use Rattle.model.specs.Layout.{port_widths, port_values, copies_values, port_of, port_place, d_in, is_image}
 use Rattle.records.specs.Records.{there, ports_in}
 use Rattle.records.specs.Laws.Head.{image-tests}
 use Rattle.image.specs.Image.{held, decode}
@@ -132,7 +132,7 @@ module _ (bs : List ℕ) where
     where
       go : (b : Bool) → is_image bs ≡ b → (decode bs).answer ≡ BadImage
       go true q =
-          let z : 0 ≡ dIn bs = e ∙ rw q in
+          let z : 0 ≡ d_in bs = e ∙ rw q in
           absurd (omega (arith, z, (image-tests bs q).some))
       go false q = rw q
 

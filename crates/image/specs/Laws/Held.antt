@@ -7,7 +7,7 @@ use Rattle.std.proofs.Math.ListN.{length-append, length-replicate, get_or-append
 use Rattle.std.proofs.lemmas.List.{length-map}
 use Rattle.model.specs.Table.{room, Sized, no_port, no_copies, port_at, copies_at}
 use Rattle.model.specs.Bytes.{Bytes, sum, unpack, unpacks}
-use Rattle.model.specs.Layout.{shared_widths, port_widths, copied_widths, copies_widths, head_widths, shared_of, port_of, copies_of, port_place, copies_place, size, dIn, is_image}
+use Rattle.model.specs.Layout.{shared_widths, port_widths, copied_widths, copies_widths, head_widths, shared_of, port_of, copies_of, port_place, copies_place, size, d_in, is_image}
 use Rattle.layout.specs.Laws.Inside.{start-inside, port-inside, copied-inside, copies-inside}
 use Rattle.layout.specs.Laws.Records.{length-unpacks}
 use Rattle.records.specs.Records.{there, ports_in}
@@ -86,11 +86,11 @@ module _ (d : ℕ) (bs : List ℕ) where
 
 -- the image of d ports
 module _ (bs : List ℕ) (d : ℕ) (e : d ≡ ports_in bs) (p : 0 < d) where
-  pub is-image : (is_image bs ≡ true) × (d ≡ dIn bs)
+  pub is-image : (is_image bs ≡ true) × (d ≡ d_in bs)
   unfolding ports_in
   is-image = go (is_image bs) refl
     where
-      go : (b : Bool) → is_image bs ≡ b → (is_image bs ≡ true) × (d ≡ dIn bs)
+      go : (b : Bool) → is_image bs ≡ b → (is_image bs ≡ true) × (d ≡ d_in bs)
       go true q = (q, e ∙ rw q)
       go false q =
           let z : d ≡ 0 = e ∙ rw q in

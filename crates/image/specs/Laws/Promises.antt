@@ -9,7 +9,7 @@ use Rattle.model.specs.Good.{good}
 use Rattle.model.specs.Event.{number_of}
 use Rattle.model.specs.Laws.Rules.{shared-rules}
 use Rattle.model.specs.Bytes.{Bytes}
-use Rattle.model.specs.Layout.{size, dIn, is_image}
+use Rattle.model.specs.Layout.{size, d_in, is_image}
 use Rattle.records.specs.Records.{ports_in}
 use Rattle.records.specs.Laws.Head.{image-tests}
 use Rattle.image.specs.declared.Written.{Written}
@@ -41,10 +41,10 @@ write_done t out next w s g h p q =
 
 -- an image that is accepted
 module _ (bs : List ℕ) (h : (decode bs).answer ≡ Done) where
-  accepted : (is_image bs ≡ true) × (good (held (dIn bs) bs) ≡ true)
+  accepted : (is_image bs ≡ true) × (good (held (d_in bs) bs) ≡ true)
   accepted = accepted-image bs (ap number_of h)
 
-  its-table : (decode bs).table ≡ held (dIn bs) bs
+  its-table : (decode bs).table ≡ held (d_in bs) bs
   unfolding decode
   its-table = rw (accepted.0, accepted.1)
 
@@ -53,7 +53,7 @@ module _ (bs : List ℕ) (h : (decode bs).answer ≡ Done) where
 
   pub accepted-sized : Sized (decode bs).table
   unfolding ports_in
-  accepted-sized = rw its-table (held-sized bs (dIn bs) (rw accepted.0) (image-tests bs accepted.0).some)
+  accepted-sized = rw its-table (held-sized bs (d_in bs) (rw accepted.0) (image-tests bs accepted.0).some)
 
   pub accepted-encoded : Bytes bs → encode (decode bs).table ≡ bs
   accepted-encoded f = ap encode its-table ∙ encode-held bs f accepted.0

@@ -19,7 +19,7 @@ use Rattle.model.specs.Table.{room, table, no_port, no_copies, port_at, copies_a
 use Rattle.model.specs.Good.{good}
 use Rattle.model.specs.Event.{number_of, fault_in}
 use Rattle.model.specs.Bytes.{value, unpack}
-use Rattle.model.specs.Layout.{head_widths, dIn, is_image}
+use Rattle.model.specs.Layout.{head_widths, d_in, is_image}
 use Rattle.records.specs.Records.{ports_in}
 use Rattle.records.specs.Laws.Head.{image-tests}
 use Rattle.image.specs.Image.{held, decode}
@@ -93,19 +93,19 @@ module _ (bs : List ℕ) (d : ℕ) where
           (rw q at r.shared)
 
 -- byte 1 is D
-pub d-byte : (bs : List ℕ) → get_or bs 1 0 ≡ dIn bs
-unfolding dIn head_widths unpack value
+pub d-byte : (bs : List ℕ) → get_or bs 1 0 ≡ d_in bs
+unfolding d_in head_widths unpack value
 d-byte [] = refl
 d-byte (b ∷ []) = refl
 d-byte (b ∷ (c ∷ bs)) = omega arith
 
 module _ (bs : List ℕ) where
   -- an image that is accepted, by the number
-  pub accepted-image : number_of (decode bs).answer ≡ 0 → (is_image bs ≡ true) × (good (held (dIn bs) bs) ≡ true)
+  pub accepted-image : number_of (decode bs).answer ≡ 0 → (is_image bs ≡ true) × (good (held (d_in bs) bs) ≡ true)
   unfolding decode
-  accepted-image h = go (is_image bs) refl (good (held (dIn bs) bs)) refl
+  accepted-image h = go (is_image bs) refl (good (held (d_in bs) bs)) refl
     where
-      go : (b : Bool) → is_image bs ≡ b → (g : Bool) → good (held (dIn bs) bs) ≡ g → (is_image bs ≡ true) × (good (held (dIn bs) bs) ≡ true)
+      go : (b : Bool) → is_image bs ≡ b → (g : Bool) → good (held (d_in bs) bs) ≡ g → (is_image bs ≡ true) × (good (held (d_in bs) bs) ≡ true)
       go true q true r = (q, r)
       go true q false r = absurd (omega (arith, rw (q, r) at h))
       go false q g r = absurd (omega (arith, rw q at h))
@@ -121,11 +121,11 @@ module _ (bs : List ℕ) where
 
   pub read-ends : (n : ℕ) → n ≡ number_of (decode bs).answer → made_in (answer_of n bs) (accepted_in n bs) bs ≡ decode bs
   unfolding decode accepted_in answer_of table_in
-  read-ends n e = go (is_image bs) refl (good (held (dIn bs) bs)) refl
+  read-ends n e = go (is_image bs) refl (good (held (d_in bs) bs)) refl
     where
-      go : (b : Bool) → is_image bs ≡ b → (g : Bool) → good (held (dIn bs) bs) ≡ g → made_in (answer_of n bs) (accepted_in n bs) bs ≡ decode bs
+      go : (b : Bool) → is_image bs ≡ b → (g : Bool) → good (held (d_in bs) bs) ≡ g → made_in (answer_of n bs) (accepted_in n bs) bs ≡ decode bs
       go true q true r =
           let z : n ≡ 0 = e ∙ rw (q, r) in
-          rw (q, r, z, d-byte bs, ne_eqb (dIn bs) 0 (λ w. absurd (omega (arith, w, (image-tests bs q).some))))
+          rw (q, r, z, d-byte bs, ne_eqb (d_in bs) 0 (λ w. absurd (omega (arith, w, (image-tests bs q).some))))
       go true q false r = let z : n ≡ 1 = e ∙ rw (q, r) in rw (q, r, z)
       go false q g r = let z : n ≡ 11 = e ∙ rw q in rw (q, z)

@@ -15,7 +15,7 @@ use Rattle.model.specs.Table.{room, Sized, no_port, no_copies, size_good}
 use Rattle.model.specs.Good.{good}
 use Rattle.model.specs.Laws.Rules.{shared-rules}
 use Rattle.model.specs.Bytes.{sum, pack, unpack, unpacks}
-use Rattle.model.specs.Layout.{shared_widths, port_widths, copied_widths, copies_widths, head_widths, shared_values, port_values, copied_values, copies_values, head_values, shared_of, port_of, copies_of, port_place, copies_place, size, dIn, is_image}
+use Rattle.model.specs.Layout.{shared_widths, port_widths, copied_widths, copies_widths, head_widths, shared_values, port_values, copied_values, copies_values, head_values, shared_of, port_of, copies_of, port_place, copies_place, size, d_in, is_image}
 use Rattle.layout.specs.Laws.Records.{packs, AllFit, length-pack, unpack-pack, unpacks-packs}
 use Rattle.records.specs.Laws.Rows.{same}
 use Rattle.image.specs.Image.{encode, held, decode}
@@ -101,8 +101,8 @@ module _ (t : Table) where
     unfolding encode
     head-back = unpack-pack head_widths (head_values t.shared.d) _ (head-fits t.shared.d fits)
 
-    pub d-back : dIn (encode t) ≡ t.shared.d
-    unfolding dIn head_values
+    pub d-back : d_in (encode t) ≡ t.shared.d
+    unfolding d_in head_values
     d-back = rw head-back
 
     pub image-back : is_image (encode t) ≡ true

@@ -6,24 +6,24 @@ use borrow.Author.Tests.{eqb-true, eq-eqb, ne_eqb, leb-true}
 use Rattle.std.proofs.Math.Dec.{eqb}
 use Rattle.model.specs.Table.{room, size_good}
 use Rattle.model.specs.Bytes.{sum, unpack}
-use Rattle.model.specs.Layout.{head_widths, head_values, size, dIn, is_image}
+use Rattle.model.specs.Layout.{head_widths, head_values, size, d_in, is_image}
 use Rattle.layout.specs.Laws.Inside.{start-inside, copied-inside}
 use Rattle.records.specs.Records.{ports_in}
 use Rattle.records.specs.Laws.Rows.{same}
 
 -- the tests of an image, one by one
 pub record Image (bs : List ℕ) : Type 0 where
-  pub some : 1 ≤ dIn bs
-  pub fits : dIn bs ≤ room
-  pub long : length bs ≡ size (dIn bs)
-  pub head : same (unpack head_widths bs) (head_values (dIn bs)) ≡ true
+  pub some : 1 ≤ d_in bs
+  pub fits : d_in bs ≤ room
+  pub long : length bs ≡ size (d_in bs)
+  pub head : same (unpack head_widths bs) (head_values (d_in bs)) ≡ true
 
 pub image-tests : (bs : List ℕ) → is_image bs ≡ true → Image bs
 unfolding is_image size_good
 image-tests bs e =
-    let a = (and-eq-true_iff (leb 1 (dIn bs) && leb (dIn bs) room && eqb (length bs) (size (dIn bs))) _).0 e in
-    let b = (and-eq-true_iff (leb 1 (dIn bs) && leb (dIn bs) room) _).0 a.0 in
-    let c = (and-eq-true_iff (leb 1 (dIn bs)) _).0 b.0 in
+    let a = (and-eq-true_iff (leb 1 (d_in bs) && leb (d_in bs) room && eqb (length bs) (size (d_in bs))) _).0 e in
+    let b = (and-eq-true_iff (leb 1 (d_in bs) && leb (d_in bs) room) _).0 a.0 in
+    let c = (and-eq-true_iff (leb 1 (d_in bs)) _).0 b.0 in
     record {
       some = leb-true _ _ c.0;
       fits = leb-true _ _ c.1;
@@ -36,7 +36,7 @@ pub ports-fit : (bs : List ℕ) → (ports_in bs ≤ room) × (0 < ports_in bs �
 unfolding ports_in
 ports-fit bs = go (is_image bs) refl
   where
-    go : (b : Bool) → is_image bs ≡ b → (cond b (dIn bs) 0 ≤ room) × (0 < cond b (dIn bs) 0 → length bs ≡ size (cond b (dIn bs) 0))
+    go : (b : Bool) → is_image bs ≡ b → (cond b (d_in bs) 0 ≤ room) × (0 < cond b (d_in bs) 0 → length bs ≡ size (cond b (d_in bs) 0))
     go true e = ((image-tests bs e).fits, λ h. (image-tests bs e).long)
     go false e = (omega arith, λ h. absurd (omega (arith, h)))
 
@@ -50,11 +50,11 @@ module _ (bs : List ℕ) where
   unfolding is_image sum head_widths
   too_short h =
       ports-none bs
-      (rw (ne_eqb (length bs) (size (dIn bs)) (λ e. absurd (omega (arith, e, h, start-inside (dIn bs), copied-inside (dIn bs)))), and-false (size_good (dIn bs))))
+      (rw (ne_eqb (length bs) (size (d_in bs)) (λ e. absurd (omega (arith, e, h, start-inside (d_in bs), copied-inside (d_in bs)))), and-false (size_good (d_in bs))))
 
   module _ (v : List ℕ) (e : v ≡ unpack head_widths bs) where
-    d-in : dIn bs ≡ get_or v 1 0
-    unfolding dIn
+    d-in : d_in bs ≡ get_or v 1 0
+    unfolding d_in
     d-in = rw e
 
     pub wrong_size : size_good (get_or v 1 0) ≡ false → 0 ≡ ports_in bs
