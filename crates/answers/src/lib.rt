@@ -1,5 +1,6 @@
 // Fresh tables, answers, and the events that are no step.
 #![tactic(auto)]
+
 ghost use Rattle.std.specs.Prelude.{◌≡◌};
 ghost use Rattle.model.specs.Table.{no_work, fresh_table};
 ghost use Rattle.model.specs.Event as Event;

@@ -1,5 +1,6 @@
 // What a touch costs in both models, and the copy sets after it. Port k's bit in a copy set is bit k round the 64 bits of a mask.
 #![tactic(auto)]
+
 ghost use Rattle.std.specs.Prelude.{◌≡◌, cond, ◌%◌};
 ghost use Rattle.model.specs.Mask.{stands};
 ghost use Rattle.model.specs.Table as Table;

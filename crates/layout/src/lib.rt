@@ -1,6 +1,7 @@
 // The layout of an image: the widths of each record's fields, its values in their order, the head, and where each record stands. Here alone stand numbers of
 // the layout. D and a port's number are bytes, as in the image, so that no size or place is out of reach.
 #![tactic(auto)]
+
 ghost use Rattle.std.specs.Prelude.{◌≡◌, ◌+◌, ◌*◌, ◌≤◌};
 ghost use Rattle.model.specs.Bytes.{sum, pack, unpack};
 ghost use Rattle.model.specs.Layout as Layout;

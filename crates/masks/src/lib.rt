@@ -1,5 +1,6 @@
 // Sets of ports as masks of 64 bits: bit k belongs to port k. A port number above 63 is taken round the 64 bits, so that any is taken.
 #![tactic(auto)]
+
 ghost use Rattle.std.specs.Prelude.{◌≡◌, ◌-◌, ◌%◌, ◌^◌, if◌then◌else◌, nat_eq};
 ghost use Rattle.model.specs.Mask as Mask;
 ghost use Rattle.model.specs.Ring as Ring;

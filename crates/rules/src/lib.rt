@@ -1,4 +1,5 @@
 // Which tables are good: the rules of document 01 as functions.
 #![tactic(auto)]
+
 pub mod faults;
 pub mod good;

@@ -1,4 +1,3 @@
-use borrow.Author.Rules.{rules}
 use Rattle.model.specs.Table.{room, fresh_table}
 use Rattle.answers.proofs.blank.Goals as goal
 

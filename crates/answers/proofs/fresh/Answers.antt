@@ -1,4 +1,3 @@
-use borrow.Author.Rules.{rules}
 use Rattle.model.specs.Event.{fresh}
 use Rattle.answers.proofs.fresh.Goals as goal
 

@@ -1,4 +1,3 @@
-use borrow.Author.Rules.{rules}
 use mathlib.Core.Path.{refl}
 use Rattle.model.specs.Table.{most}
 use Rattle.model.specs.Paid.{placed}

@@ -1,4 +1,3 @@
-use borrow.Author.Rules.{rules}
 use Rattle.costs.proofs.cached.Goals as goal
 
 pub returns-in-Read : goal.returns-in-Read

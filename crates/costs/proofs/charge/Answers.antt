@@ -1,4 +1,3 @@
-use borrow.Author.Rules.{rules}
 use Prim.Native.Nat.{◌%◌}
 use Rattle.costs.specs.Single.{charge-fee}
 use Rattle.costs.proofs.charge.Goals as goal

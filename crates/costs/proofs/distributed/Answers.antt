@@ -1,4 +1,3 @@
-use borrow.Author.Rules.{rules}
 use Rattle.costs.proofs.distributed.Goals as goal
 
 pub returns-in-CandidateGo : goal.returns-in-CandidateGo

@@ -1,4 +1,3 @@
-use borrow.Author.Rules.{rules}
 use Rattle.model.specs.Parts.Charges.{fee_of}
 use Rattle.costs.proofs.fee.Goals as goal
 

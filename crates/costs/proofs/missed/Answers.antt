@@ -1,4 +1,3 @@
-use borrow.Author.Rules.{rules}
 use Rattle.costs.proofs.missed.Goals as goal
 
 pub returns-then-stands : goal.returns-then-stands

@@ -1,4 +1,3 @@
-use borrow.Author.Rules.{rules}
 use Rattle.costs.proofs.old.Goals as goal
 
 pub returns-in-Spin : goal.returns-in-Spin

@@ -1,4 +1,3 @@
-use borrow.Author.Rules.{rules}
 use Rattle.costs.proofs.put_copies.Goals as goal
 
 pub returns-in-Status : goal.returns-in-Status

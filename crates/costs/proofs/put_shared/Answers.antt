@@ -1,4 +1,3 @@
-use borrow.Author.Rules.{rules}
 use Rattle.costs.proofs.put_shared.Goals as goal
 
 pub returns-in-Active : goal.returns-in-Active

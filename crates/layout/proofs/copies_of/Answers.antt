@@ -1,6 +1,5 @@
 use mathlib.Core.Path.{refl}
 use Rattle.model.specs.Layout.{copies_of}
-use borrow.Author.Rules.{rules}
 use Rattle.layout.proofs.copies_of.Goals as goal
 
 pub returns : goal.returns

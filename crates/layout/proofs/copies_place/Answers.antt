@@ -2,7 +2,6 @@ use native.Mathlib.Omega.{arith}
 use borrow.Author.Tests.{le-leb, lt-leb}
 use Rattle.model.specs.Bytes.{sum}
 use Rattle.model.specs.Layout.{head_widths, shared_widths, port_widths, set_width, copied_widths, copies_widths, port_place, copies_place}
-use borrow.Author.Rules.{rules}
 use Rattle.layout.proofs.copies_place.Goals as goal
 
 pub returns-then-d-le-NARROW : goal.returns-then-d-le-NARROW

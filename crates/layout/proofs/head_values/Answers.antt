@@ -1,6 +1,5 @@
 use Rattle.model.specs.Bytes.{sum}
-use Rattle.model.specs.Layout.{head_widths, shared_widths, port_widths, version, port_place, head_values}
-use borrow.Author.Rules.{rules}
+use Rattle.model.specs.Layout.{head_widths, shared_widths, port_widths, port_place, head_values}
 use Rattle.layout.proofs.head_values.Goals as goal
 
 pub returns : goal.returns

@@ -1,7 +1,6 @@
 use native.Mathlib.Omega.{arith}
 use Rattle.model.specs.Bytes.{sum}
 use Rattle.model.specs.Layout.{head_widths, shared_widths, port_widths, port_place}
-use borrow.Author.Rules.{rules}
 use Rattle.layout.proofs.port_place.Goals as goal
 
 pub returns : goal.returns

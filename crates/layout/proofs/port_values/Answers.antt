@@ -1,5 +1,4 @@
 use Rattle.model.specs.Layout.{port_values}
-use borrow.Author.Rules.{rules}
 use Rattle.layout.proofs.port_values.Goals as goal
 
 pub returns : goal.returns

@@ -1,6 +1,4 @@
-use borrow.Author.Rules.{rules}
 use native.Mathlib.Omega.{arith}
-use Prim.Native.Nat.{◌<◌}
 use Rattle.layout.specs.Laws.Inside.{places-small}
 use Rattle.layout.proofs.set_place.Goals as goal
 

@@ -1,4 +1,4 @@
-use Rattle.std.proofs.Common.{rules, mod-eq_of_lt}
+use Rattle.std.proofs.Common.{mod-eq_of_lt}
 use Rattle.model.specs.Layout.{shared_widths, shared_of}
 use Rattle.layout.specs.Laws.Records.{packed-cut}
 use Rattle.layout.proofs.shared_of.Goals as goal

@@ -1,5 +1,4 @@
 use Rattle.model.specs.Layout.{shared_values}
-use borrow.Author.Rules.{rules}
 use Rattle.layout.proofs.shared_values.Goals as goal
 
 pub returns : goal.returns

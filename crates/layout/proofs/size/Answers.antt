@@ -1,5 +1,4 @@
 use Rattle.model.specs.Layout.{size}
-use borrow.Author.Rules.{rules}
 use Rattle.layout.proofs.size.Goals as goal
 
 pub returns : goal.returns

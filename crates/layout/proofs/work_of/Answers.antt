@@ -1,6 +1,5 @@
 use Rattle.model.specs.Layout.{port_widths, port_of}
 use Rattle.layout.specs.Laws.Records.{packed-cut}
-use borrow.Author.Rules.{rules}
 use Rattle.layout.proofs.work_of.Goals as goal
 
 pub returns : goal.returns

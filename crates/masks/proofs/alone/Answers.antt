@@ -1,4 +1,3 @@
-use Rattle.std.proofs.Common.{rules}
 use Rattle.model.specs.Mask.{alone}
 use Rattle.masks.specs.Shift.{one_shifted}
 use Rattle.masks.proofs.alone.Goals as goal

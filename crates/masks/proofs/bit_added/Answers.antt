@@ -1,4 +1,3 @@
-use Rattle.std.proofs.Common.{rules}
 use Rattle.model.specs.Mask.{alone, added}
 use Rattle.masks.proofs.bit_added.Goals as goal
 

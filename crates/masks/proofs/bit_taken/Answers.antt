@@ -1,4 +1,3 @@
-use Rattle.std.proofs.Common.{rules}
 use Rattle.model.specs.Mask.{alone, added}
 use Rattle.masks.specs.Shift.{complement, complement-lt}
 use Rattle.masks.proofs.bit_taken.Goals as goal

@@ -1,4 +1,4 @@
-use Rattle.std.proofs.Common.{◌%◌, rules}
+use Rattle.std.proofs.Common.{◌%◌}
 use Rattle.model.specs.Mask.{alone}
 use Rattle.model.specs.Laws.Mask.{or-joined}
 use Rattle.masks.proofs.joined.Goals as goal

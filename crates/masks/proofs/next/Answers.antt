@@ -1,5 +1,5 @@
 -- `masks::next` meets its contract: the count of trailing zeros is the lowest port of the half that was chosen.
-use Rattle.std.proofs.Common.{◌/◌, ◌%◌, ◌^◌, pos_of_ne-zero, arith, rules}
+use Rattle.std.proofs.Common.{◌/◌, ◌%◌, ◌^◌, pos_of_ne-zero, arith}
 use lib.Count.{trailing_le}
 use Rattle.masks.specs.Shift.{round-lt}
 use Rattle.masks.specs.Round.{lowest, higher}

@@ -1,5 +1,5 @@
 -- `masks::stands` meets its contract: no bit stands past the width.
-use Rattle.std.proofs.Common.{sym, refl, rules}
+use Rattle.std.proofs.Common.{sym, refl}
 use Rattle.model.specs.Mask.{stands}
 use Rattle.model.specs.Laws.Mask.{beyond}
 use Rattle.masks.proofs.stands.Goals as goal

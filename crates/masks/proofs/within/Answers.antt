@@ -1,5 +1,5 @@
 -- `masks::within` meets its contract: a mask is below 2 ^ 64.
-use Rattle.std.proofs.Common.{sym, refl, lt_of_lt_of_le, pow_mono, rules}
+use Rattle.std.proofs.Common.{sym, refl, lt_of_lt_of_le, pow_mono}
 use Rattle.model.specs.Mask.{within}
 use Rattle.model.specs.Laws.Mask.{lt-within}
 use Rattle.masks.proofs.within.Goals as goal

@@ -1,17 +1,15 @@
 -- The rules of a good table as a list, and by record: the same tests pass.
-use Rattle.std.specs.Prelude.{◌≡◌, refl, Bool, true, false, not, ◌&&◌, ◌||◌, ℕ, zero, suc, ◌≤◌, ◌<◌, eqb, leb, ltb, get_or}
-use Rattle.std.proofs.Common.{sym, ap, ◌∙◌, arith, ltb-true, lt-ltb, le-ltb, leb-true}
+use Rattle.std.specs.Prelude.{◌≡◌, refl, Bool, true, false, not, ◌&&◌, ℕ, zero, suc, ◌<◌, eqb, leb, ltb, get_or}
+use Rattle.std.proofs.Common.{sym, ap, ◌∙◌, arith, lt-ltb, le-ltb, leb-true}
 use Rattle.std.proofs.Math.Bool.{and-eq-true_iff, and_assoc, and-true, or-true}
 use mathlib.Core.List.{List, [], ◌∷◌, ◌++◌, foldr, map}
 use Rattle.std.proofs.Math.Decide.{dec_lt}
-use Rattle.model.specs.declared.Fault.{Fault}
 use Rattle.model.specs.declared.Port.{Port}
 use Rattle.model.specs.declared.Copies.{Copies}
 use Rattle.model.specs.declared.Table.{Table}
 use Rattle.model.specs.Table.{room, size_good, port_at, copies_at}
-use Rattle.model.specs.Points.{one_of}
 use Rattle.model.specs.Layout.{port_values, copies_values}
-use Rattle.model.specs.Good.{implies, every_below, Rule, place_empty, room_empty, spin_good, shared_rules, field_rules, work_rules, copy_rules, port_rules, ports_rules, rules, passed, good}
+use Rattle.model.specs.Good.{every_below, Rule, place_empty, room_empty, spin_good, shared_rules, field_rules, work_rules, copy_rules, port_rules, ports_rules, rules, passed, good}
 use Rattle.model.specs.Parts.Good.{shared_good, fields_good, work_good, copies_good, port_empty, port_good, place_good, all_good}
 use Rattle.model.specs.Laws.Tests.{conjunct, every-below, below-every, ◌and◌}
 

@@ -1,4 +1,3 @@
-use borrow.Author.Rules.{rules}
 use borrow.Author.Tests.{lt-ltb, le-ltb}
 use Rattle.model.specs.Mask.{stands}
 use Rattle.points.proofs.places.has.Goals as goal

@@ -1,4 +1,3 @@
-use borrow.Author.Rules.{rules}
 use Rattle.model.specs.Points.{settled}
 use Rattle.points.specs.Places.{own-table, seen-table, candidate-table, candidate-spin-table}
 use Rattle.points.proofs.places.settled.Goals as goal

@@ -1,4 +1,3 @@
-use borrow.Author.Rules.{rules}
 use mathlib.Core.Path.{sym}
 use Rattle.points.specs.Places.{touch-table, touch-beyond}
 use Rattle.points.proofs.places.touch_at.Goals as goal

@@ -1,4 +1,3 @@
-use borrow.Author.Rules.{rules}
 use mathlib.Core.Path.{refl, ap, ◌∙◌}
 use Rattle.model.specs.Bytes.{sum}
 use Rattle.model.specs.Layout.{copies_widths, copies_place}

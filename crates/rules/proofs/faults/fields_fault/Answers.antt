@@ -1,4 +1,3 @@
-use borrow.Author.Rules.{rules}
 use mathlib.Core.Path.{refl, ap, ◌∙◌}
 use mathlib.Core.Bool.{Bool, not, ◌||◌}
 use lib.Dec.{eqb}

@@ -1,7 +1,5 @@
-use borrow.Author.Rules.{rules}
 use mathlib.Core.Path.{◌≡◌, sym, ◌∙◌}
 use mathlib.Core.Bool.{true, false}
-use borrow.Author.Tests.{not-true, not-false}
 use Rattle.model.specs.Table.{room, size_good}
 use Rattle.model.specs.Good.{field_rules, work_rules, copy_rules}
 use Rattle.rules.specs.Check.{size-good-fits}

@@ -1,4 +1,3 @@
-use borrow.Author.Rules.{rules}
 use native.Mathlib.Omega.{arith}
 use Rattle.layout.specs.Laws.Inside.{places-small}
 use Rattle.rules.proofs.faults.port_field.Goals as goal

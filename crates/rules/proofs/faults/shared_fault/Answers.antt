@@ -1,8 +1,6 @@
-use borrow.Author.Rules.{rules}
 use mathlib.Core.Path.{◌≡◌, refl, sym, ap, ◌∙◌}
 use mathlib.Core.Bool.{true, false, ◌&&◌, and-eq-true_iff}
 use native.Mathlib.Omega.{arith}
-use borrow.Author.Tests.{not-true, not-false}
 use Rattle.model.specs.Table.{room, size_good}
 use Rattle.model.specs.Bytes.{sum}
 use Rattle.model.specs.Layout.{head_widths, shared_widths, port_widths, copied_widths, port_place}

@@ -1,4 +1,3 @@
-use borrow.Author.Rules.{rules}
 use mathlib.Core.Path.{◌∙◌}
 use Rattle.rules.specs.Faults.{spin_fault}
 use borrow.Author.Tests.{lt-ltb, le-ltb}

@@ -1,4 +1,3 @@
-use borrow.Author.Rules.{rules}
 use mathlib.Core.Path.{refl, ◌∙◌}
 use lib.Dec.{eqb, ltb}
 use Rattle.model.specs.Bytes.{sum}

@@ -1,4 +1,3 @@
-use borrow.Author.Rules.{rules}
 use Rattle.model.specs.Parts.Good.{copies_good}
 use Rattle.rules.proofs.good.copies_good.Goals as goal
 

@@ -1,7 +1,6 @@
-use borrow.Author.Rules.{rules}
 use mathlib.Core.Path.{◌≡◌, sym, ◌∙◌}
 use mathlib.Core.Bool.{true, false, and-true, and-false}
-use borrow.Author.Tests.{not-true, not-false, le-leb, lt-leb}
+use borrow.Author.Tests.{le-leb, lt-leb}
 use Rattle.model.specs.Table.{most}
 use Rattle.model.specs.Good.{named}
 use Rattle.model.specs.Parts.Good.{fields_good}

@@ -1,4 +1,3 @@
-use borrow.Author.Rules.{rules}
 use Rattle.model.specs.Parts.Rules.{joined_port}
 use Rattle.rules.proofs.good.joined.Goals as goal
 

@@ -1,5 +1,3 @@
-use borrow.Author.Rules.{rules}
-use borrow.Author.Tests.{not-true, not-false}
 use mathlib.Core.Path.{sym, ◌∙◌}
 use Rattle.points.specs.Places.{seen-table}
 use Rattle.model.specs.Parts.Rules.{port_tests}

@@ -1,4 +1,3 @@
-use borrow.Author.Rules.{rules}
 use mathlib.Core.Path.{sym, ◌∙◌}
 use native.Mathlib.Omega.{arith}
 use Rattle.model.specs.Parts.Rules.{ports_of}
@@ -17,6 +16,6 @@ returns-then-size_good c =
 pub returns-else-size_good : goal.returns-else-size_good
 unfolding ports_of
 returns-else-size_good c = record {
-      value = rw (sym c.size_good.ensures ∙ c.if-size_good.false);
-      upper_bound = omega arith;
-    }
+  value = rw (sym c.size_good.ensures ∙ c.if-size_good.false);
+  upper_bound = omega arith;
+}

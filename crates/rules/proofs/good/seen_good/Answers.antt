@@ -1,4 +1,3 @@
-use borrow.Author.Rules.{rules}
 use mathlib.Core.Bool.{not-not, or-false, or_assoc}
 use Rattle.points.specs.Places.{candidate-table, candidate-spin-table}
 use Rattle.model.specs.Parts.Rules.{seen_tests}

@@ -1,4 +1,3 @@
-use borrow.Author.Rules.{rules}
 use Rattle.model.specs.Parts.Good.{shared_good}
 use Rattle.rules.proofs.good.shared_good.Goals as goal
 
