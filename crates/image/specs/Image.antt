@@ -1,5 +1,5 @@
 -- What is written and what is read (document 01, 'The image' and 'Refusal numbers').
-use Rattle.std.specs.Prelude.{cond, ℕ, ◌-◌, eqb, ltb, length, take, drop, replicate}
+use Rattle.std.specs.Prelude.{cond, ℕ, ◌-◌, eqb, ltb, take, drop, replicate}
 use mathlib.Core.List.{List, ◌++◌, map, flat_map}
 use Rattle.std.proofs.lemmas.List.Edits.{sets}
 use Rattle.model.specs.declared.Table.{Table}

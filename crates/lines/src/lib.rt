@@ -1,5 +1,6 @@
 // A schedule's lines, read byte by byte: what has been read of a line, and what a run does with it.
 #![tactic(auto)]
+
 pub mod reading;
 
 // What has been read of a line that is not ended yet: its letter, and its number so far.

@@ -1,12 +1,13 @@
 // The listing of a schedule: a run over an input that comes in pieces.
 #![tactic(auto)]
+
 use lines::{Part, Stage};
 use model::Table;
 
 pub mod runs;
 
 // A run: the table, the number of the line that is being read, what has been read of that line, and where the run stands.
-#[derive(Drop)]
+#[derive(Clone, Copy)]
 pub struct Run {
     pub table: Table,
     pub number: u64,
@@ -15,7 +16,7 @@ pub struct Run {
 }
 
 // What a piece of input gives: the run after it, how many bytes were taken, and how many were written.
-#[derive(Drop)]
+#[derive(Clone, Copy)]
 pub struct Fed {
     pub run: Run,
     pub taken: usize,

@@ -51,6 +51,7 @@ fn row(number: u64, letter: u8, port: u64, code: u64, p: Port, shared: Shared) -
 
 // Takes bytes of a piece of input, and puts what they print at the start of `out`, until the piece is used up, there is no room for another longest line,
 // or the run is at its end. The table stays here: an order is made on the records that it can see, and what it leaves is stored where they were.
+#[tactic(auto, unfolding(model::specs::Table::room))]
 pub fn feed(run: Run, input: &[u8], out: &mut [u8]) -> Fed
     ensures value { result ≡ (Feed.feeding (length out.old) run input.now).0 }
     ensures out_after { out.new ≡ sets out.old 0 (Feed.feeding (length out.old) run input.now).1 }

@@ -1,5 +1,6 @@
 // The lock engine: an event on a table.
 #![tactic(auto)]
+
 pub mod acts;
 pub mod events;
 pub mod orders;

@@ -1,5 +1,6 @@
 // The records of a table in the bytes of an image: each read and written at its place. A record that the bytes end before reads as 0, and isn't written.
 #![tactic(auto)]
+
 mod codec;
 
 ghost use Rattle.std.specs.Prelude.{◌≡◌, ◌∷◌, [], ◌+◌, get_or};

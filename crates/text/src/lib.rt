@@ -1,5 +1,6 @@
 // The lines of a listing, put into a lent buffer.
 #![tactic(auto)]
+
 ghost use Rattle.std.specs.Prelude.{◌≡◌, ◌+◌, ◌≤◌, leb, length};
 ghost use Rattle.std.proofs.lemmas.List.Edits.{sets};
 ghost use Rattle.text.specs.Text as Text;

@@ -1,5 +1,4 @@
 use mathlib.Core.Path.{ap}
-use borrow.Author.Rules.{rules}
 use Rattle.model.specs.declared.Shared.{Shared}
 use Rattle.model.specs.Layout.{shared_of}
 use Rattle.records.proofs.active_in.Goals as goal

@@ -2,7 +2,6 @@ use mathlib.Core.Path.{refl, ◌∙◌}
 use mathlib.Core.List.{List, []}
 use Prim.Native.Nat.{ℕ}
 use native.Mathlib.Omega.{arith}
-use borrow.Author.Rules.{rules}
 use Rattle.model.specs.Bytes.{sum}
 use Rattle.model.specs.Layout.{shared_widths, head_widths, shared_of}
 use Rattle.records.specs.Laws.There.{kept}

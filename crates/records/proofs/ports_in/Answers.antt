@@ -1,6 +1,5 @@
 use mathlib.Core.Path.{◌≡◌, refl, sym, ◌∙◌}
 use native.Mathlib.Omega.{arith}
-use borrow.Author.Tests.{not-true, not-false}
 use lib.ListN.{replicate}
 use Rattle.model.specs.Table.{room}
 use Rattle.rules.specs.Check.{size-good-fits}
@@ -8,7 +7,6 @@ use Rattle.model.specs.Bytes.{sum, unpack}
 use Rattle.model.specs.Layout.{head_widths}
 use Rattle.records.specs.Laws.Head.{too_short, wrong_size, wrong-length, wrong-head, right}
 use Rattle.records.specs.Laws.There.{got}
-use borrow.Author.Rules.{rules}
 use Rattle.records.proofs.ports_in.Goals as goal
 
 -- the head's values

@@ -1,6 +1,5 @@
 use mathlib.Core.Path.{refl}
 use native.Mathlib.Omega.{arith}
-use borrow.Author.Rules.{rules}
 use Rattle.model.specs.Bytes.{sum}
 use Rattle.model.specs.Layout.{copies_values}
 use Rattle.layout.specs.Laws.Inside.{copies-narrow, copies-wide}

@@ -1,6 +1,5 @@
 use mathlib.Core.Path.{refl}
 use native.Mathlib.Omega.{arith}
-use borrow.Author.Rules.{rules}
 use Rattle.model.specs.Bytes.{sum}
 use Rattle.model.specs.Layout.{head_widths, head_values}
 use Rattle.records.proofs.put_head.Goals as goal

@@ -1,6 +1,5 @@
 use mathlib.Core.Path.{refl}
 use native.Mathlib.Omega.{arith}
-use borrow.Author.Rules.{rules}
 use Rattle.model.specs.Bytes.{sum}
 use Rattle.model.specs.Layout.{shared_widths, shared_values, head_widths}
 use Rattle.records.proofs.put_shared.Goals as goal

@@ -1,6 +1,5 @@
 use mathlib.Core.Path.{refl, ap, ◌∙◌}
 use native.Mathlib.Omega.{arith}
-use borrow.Author.Rules.{rules}
 use Rattle.model.specs.Bytes.{sum}
 use Prim.Native.Nat.{ℕ, ◌+◌}
 use mathlib.Core.List.{[], ◌∷◌}

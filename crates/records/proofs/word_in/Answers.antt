@@ -1,5 +1,4 @@
 use mathlib.Core.Path.{ap}
-use borrow.Author.Rules.{rules}
 use Rattle.model.specs.declared.Shared.{Shared}
 use Rattle.records.proofs.word_in.Goals as goal
 

@@ -1,7 +1,6 @@
 use Rattle.text.specs.Text as Text
 use mathlib.Core.Path.{sym, ◌∙◌}
 use Rattle.text.specs.Laws.Room.{below, there-is-room, no_room}
-use borrow.Author.Rules.{rules}
 use Rattle.text.proofs.put_bad.Goals as goal
 
 pub bad_line-requires : goal.bad_line-requires

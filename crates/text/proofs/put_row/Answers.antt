@@ -1,7 +1,6 @@
 use Rattle.text.specs.Parts as Parts
 use mathlib.Core.Path.{sym, ◌∙◌}
 use Rattle.text.specs.Laws.Room.{below, there-is-room, no_room}
-use borrow.Author.Rules.{rules}
 use Rattle.text.proofs.put_row.Goals as goal
 
 pub event_line-requires : goal.event_line-requires

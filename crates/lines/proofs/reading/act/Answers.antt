@@ -2,7 +2,6 @@ use mathlib.Core.Path.{sym, ◌∙◌}
 use Prim.Native.Nat.{◌<◌}
 use native.Mathlib.Omega.{arith}
 use borrow.Author.Tests.{ne_eqb}
-use borrow.Author.Rules.{rules}
 use Rattle.lines.specs.Line.{digit}
 use Rattle.lines.specs.Laws.Parts.{going_on}
 use Rattle.lines.proofs.reading.act.Goals as goal

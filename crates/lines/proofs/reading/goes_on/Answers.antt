@@ -1,4 +1,3 @@
-use borrow.Author.Rules.{rules}
 use Rattle.lines.proofs.reading.goes_on.Goals as goal
 
 pub returns : goal.returns

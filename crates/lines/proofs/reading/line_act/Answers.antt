@@ -1,4 +1,3 @@
-use borrow.Author.Rules.{rules}
 use Rattle.lines.proofs.reading.line_act.Goals as goal
 
 pub returns-in-Opening : goal.returns-in-Opening

@@ -1,4 +1,3 @@
-use borrow.Author.Rules.{rules}
 use Rattle.lines.proofs.reading.opening.Goals as goal
 
 pub returns-then-letter-size_good : goal.returns-then-letter-size_good

@@ -1,5 +1,4 @@
 use borrow.Author.Tests.{ne_eqb}
-use borrow.Author.Rules.{rules}
 use Rattle.lines.proofs.reading.ordering.Goals as goal
 
 pub returns-then-event-eq0 : goal.returns-then-event-eq0

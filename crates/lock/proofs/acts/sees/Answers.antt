@@ -1,4 +1,3 @@
-use borrow.Author.Rules.{rules}
 use Rattle.model.specs.Table.{most}
 use Rattle.model.specs.Parts.Moves.{sees}
 use Rattle.lock.proofs.acts.sees.Goals as goal

@@ -1,4 +1,3 @@
-use borrow.Author.Rules.{rules}
 use Rattle.lock.specs.Parts.{stepped_on}
 use Rattle.lock.specs.Sight.{round}
 use Rattle.lock.proofs.acts.stepped.Goals as goal

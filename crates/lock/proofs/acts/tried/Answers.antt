@@ -1,4 +1,3 @@
-use borrow.Author.Rules.{rules}
 use mathlib.Core.Path.{sym, ◌∙◌}
 use Rattle.model.specs.Parts.Moves.{tried}
 use Rattle.lock.specs.Sight.{seen-sight}

@@ -1,18 +1,14 @@
 -- The check finds what is bad, place by place; then one order on the records at its port's place and at that of the port that it touches.
-use mathlib.Core.Path.{◌≡◌, sym, ap, ◌∙◌}
-use mathlib.Core.Logic.{inl, inr}
+use mathlib.Core.Path.{sym, ap, ◌∙◌}
 use mathlib.Core.Bool.{cond}
-use Prim.Native.Nat.{◌-◌, ◌≤◌}
 use native.Mathlib.Omega.{arith}
-use borrow.Author.Rules.{rules}
-use borrow.Author.Tests.{not-false}
 use lib.Dec.{eqb}
 use Rattle.model.specs.declared.Touch.{Touch}
 use Rattle.model.specs.Table.{room, port_at, copies_at}
 use Rattle.model.specs.Parts.Charges.{home}
 use Rattle.model.specs.Parts.Steps.{touch_of}
 use Rattle.model.specs.Parts.Rules.{slot_of}
-use Rattle.rules.specs.Check.{EmptyTo, rest-starts, rest-turn, bad_below, check-starts, port-passes, port-fails, check-ends}
+use Rattle.rules.specs.Check.{rest-starts, rest-turn, check-starts, port-passes, port-fails, check-ends}
 use Rattle.lock.specs.Parts.{kept, acted_on}
 use Rattle.lock.specs.Single.{one-event}
 use Rattle.lock.proofs.events.event.Goals as goal

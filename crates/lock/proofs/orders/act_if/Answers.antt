@@ -1,4 +1,3 @@
-use borrow.Author.Rules.{rules}
 use Rattle.lock.proofs.orders.act_if.Goals as goal
 
 pub returns-then-sound : goal.returns-then-sound

@@ -1,4 +1,3 @@
-use borrow.Author.Rules.{rules}
 use mathlib.Core.Path.{ap, ◌∙◌}
 use Rattle.lock.specs.Ready.{passed}
 use Rattle.lock.specs.Turns.{costs-small}

@@ -1,4 +1,3 @@
-use borrow.Author.Rules.{rules}
 use Rattle.lock.proofs.runs.answer.Goals as goal
 
 pub returns : goal.returns

@@ -1,24 +1,20 @@
 -- The check finds what is bad, place by place; then each order is made on the records at its port's place and at that of the port that it touches.
 use mathlib.Core.Path.{◌≡◌, sym, ap, ◌∙◌}
-use mathlib.Core.Logic.{inl, inr}
-use mathlib.Core.Bool.{Bool}
-use Prim.Native.Nat.{◌+◌, ◌-◌, ◌*◌, ◌≤◌, ◌<◌}
+use Prim.Native.Nat.{◌+◌, ◌*◌}
 use native.Mathlib.Omega.{arith}
-use borrow.Author.Rules.{rules}
-use borrow.Author.Tests.{not-false}
 use lib.Dec.{eqb}
-use lib.ListN.{length, get_or, length-map}
+use lib.ListN.{get_or}
 use Rattle.model.specs.declared.Fault.{Fault}
 use Rattle.model.specs.declared.Touch.{Touch}
 use Rattle.model.specs.Table.{room, Sized, port_at, copies_at}
-use Rattle.model.specs.Good.{good, bad_in}
+use Rattle.model.specs.Good.{good}
 use Rattle.model.specs.Parts.Charges.{home}
 use Rattle.model.specs.Parts.Steps.{touch_of}
 use Rattle.model.specs.Parts.Rules.{slot_of}
 use Rattle.model.specs.Laws.Faults.{place-good}
-use Rattle.rules.specs.Check.{EmptyTo, rest-starts, rest-turn, bad_below, check-starts, port-passes, port-fails, check-ends}
+use Rattle.rules.specs.Check.{rest-starts, rest-turn, check-starts, port-passes, port-fails, check-ends}
 use Rattle.lock.specs.Parts.{acted_on}
-use Rattle.lock.specs.Turns.{Running, places, some-order, begins, turn-refused, turn-done, run_ends}
+use Rattle.lock.specs.Turns.{some-order, begins, turn-refused, turn-done, run_ends}
 use Rattle.lock.proofs.runs.run.Goals as goal
 use Rattle.lock.proofs.runs.run.Goals.{then-not-port_good, else-not-port_good}
 

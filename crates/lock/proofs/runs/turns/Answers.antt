@@ -1,5 +1,4 @@
 use mathlib.Core.Path.{sym}
-use borrow.Author.Tests.{not-true, not-false}
 use native.Mathlib.Nat.{min-eq_left, min-eq_right, le_of_lt}
 use Rattle.lock.proofs.runs.turns.Goals as goal
 

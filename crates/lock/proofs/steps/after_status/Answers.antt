@@ -1,4 +1,3 @@
-use borrow.Author.Rules.{rules}
 use Rattle.lock.proofs.steps.after_status.Goals as goal
 
 pub returns : goal.returns

@@ -1,7 +1,6 @@
 -- `lock::steps::asked` meets its contract: each return is its side of the clause x1, by the tests that led there and by what `next` ensures.
 use mathlib.Core.Path.{refl, sym, ◌∙◌}
 use native.Mathlib.Omega.{arith}
-use borrow.Author.Rules.{rules}
 use borrow.Author.Tests.{eq-eqb, ne_eqb, eqb-false}
 use Rattle.model.specs.Points.{two, three, four, tens}
 use Rattle.model.specs.Step.{unasked}

@@ -2,7 +2,6 @@
 -- last arm is left with the points below 11 that have no step.
 use mathlib.Core.Path.{◌≡◌, sym, ap, ◌∙◌}
 use Prim.Native.Nat.{ℕ}
-use borrow.Author.Rules.{rules}
 use Rattle.model.specs.Points.{point_of}
 use Rattle.model.specs.Parts.Moves.{step}
 use Rattle.lock.specs.Sight.{round}

@@ -1,4 +1,3 @@
-use borrow.Author.Rules.{rules}
 use Rattle.model.specs.Parts.Moves.{granted}
 use Rattle.lock.proofs.steps.granted.Goals as goal
 

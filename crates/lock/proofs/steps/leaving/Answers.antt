@@ -2,7 +2,6 @@
 -- last arm is left with point 11, which has no step.
 use mathlib.Core.Path.{sym, ◌∙◌}
 use native.Mathlib.Omega.{arith}
-use borrow.Author.Rules.{rules}
 use Rattle.model.specs.Parts.Moves.{step}
 use Rattle.lock.specs.Sight.{round}
 use Rattle.lock.specs.Match.{exit_keys, outside, no-exit}

@@ -1,5 +1,4 @@
 -- `lock::steps::looked` meets its contract: each return is a side of the choice.
-use borrow.Author.Rules.{rules}
 use Rattle.lock.proofs.steps.looked.Goals as goal
 
 pub returns-then-v : goal.returns-then-v

@@ -1,4 +1,3 @@
-use borrow.Author.Rules.{rules}
 use Rattle.model.specs.Table.{read_spin}
 use Rattle.lock.proofs.steps.read_spin.Goals as goal
 

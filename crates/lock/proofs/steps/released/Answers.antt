@@ -1,4 +1,3 @@
-use borrow.Author.Rules.{rules}
 use Rattle.model.specs.Parts.Moves.{released}
 use Rattle.lock.proofs.steps.released.Goals as goal
 

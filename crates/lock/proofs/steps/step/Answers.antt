@@ -1,6 +1,5 @@
 -- `lock::steps::step` meets its contract: below 20 by `entering` and `leaving`; from 20, 30 and 40 on by the promotion with those tens.
 use mathlib.Core.Path.{refl, sym, ap, ◌∙◌}
-use borrow.Author.Rules.{rules}
 use Rattle.model.specs.Points.{Point, two, three, four, tens, back}
 use Rattle.model.specs.Parts.Moves.{step}
 use Rattle.lock.specs.Match.{promotion-two, promotion-three, promotion-four}

@@ -1,4 +1,3 @@
-use borrow.Author.Rules.{rules}
 use Rattle.records.proofs.codec.get.Goals as goal
 
 pub returns-then-w-eq2 : goal.returns-then-w-eq2

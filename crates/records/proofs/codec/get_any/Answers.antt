@@ -1,8 +1,7 @@
 -- `image::codec::get` meets its contract: before a turn the number is that of the bytes from j on; it is below that of eight bytes.
 use mathlib.Core.Path.{◌≡◌}
-use Prim.Native.Nat.{◌+◌, ◌-◌, ◌*◌, ◌≤◌, ◌<◌}
+use Prim.Native.Nat.{◌+◌, ◌-◌, ◌*◌, ◌<◌}
 use native.Mathlib.Omega.{arith}
-use borrow.Author.Rules.{rules}
 use lib.ListN.{get_or, take, drop}
 use Rattle.model.specs.Bytes.{value}
 use Rattle.records.specs.Laws.Rows.{get-start, get-turn, get-fits}

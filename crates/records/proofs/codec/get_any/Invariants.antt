@@ -1,10 +1,7 @@
 use mathlib.Core.Path.{◌≡◌}
-use Prim.Native.Nat.{◌+◌, ◌-◌, ◌*◌, ◌≤◌, ◌<◌}
-use native.Mathlib.Omega.{arith}
-use borrow.Author.Rules.{rules}
-use lib.ListN.{get_or, take, drop}
+use Prim.Native.Nat.{◌≤◌}
+use lib.ListN.{take, drop}
 use Rattle.model.specs.Bytes.{value}
-use Rattle.records.specs.Laws.Rows.{get-start, get-turn, get-fits}
 use Rattle.records.proofs.codec.get_any.Given as goal
 
 abbrev pub invariant-loop-j : goal.invariant-loop-j
@@ -12,4 +9,3 @@ invariant-loop-j l = (l.j ≤ l.w) × (l.x ≡ value (drop l.j (take l.w (drop l
 
 abbrev pub decreases-loop-j : goal.decreases-loop-j
 decreases-loop-j l = l.j
-

@@ -1,5 +1,4 @@
 use Rattle.records.specs.Laws.Rows.{value-eight}
-use borrow.Author.Rules.{rules}
 use Rattle.records.proofs.codec.get_eight.Goals as goal
 
 pub returns : goal.returns

@@ -1,6 +1,5 @@
 use native.Mathlib.Omega.{arith}
 use Rattle.records.specs.Laws.Rows.{value-four}
-use borrow.Author.Rules.{rules}
 use Rattle.records.proofs.codec.get_four.Goals as goal
 
 pub returns : goal.returns

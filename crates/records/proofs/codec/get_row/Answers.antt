@@ -1,10 +1,9 @@
 -- `image::codec::get_row` meets its contract: before turn j, the fields still to get give the whole record.
 use mathlib.Core.Path.{refl}
-use Prim.Native.Nat.{◌+◌, ◌-◌, ◌≤◌}
+use Prim.Native.Nat.{◌+◌, ◌≤◌}
 use native.Mathlib.Omega.{arith}
-use borrow.Author.Rules.{rules}
 use lib.ListN.{length, get_or}
-use Rattle.records.specs.Laws.Rows.{narrow_at, Getting, field_fits, get-field, get-end}
+use Rattle.records.specs.Laws.Rows.{narrow_at, field_fits, get-field, get-end}
 use Rattle.records.proofs.codec.get_row.Goals as goal
 
 -- the field of a turn has its place

@@ -1,9 +1,6 @@
-use mathlib.Core.Path.{refl}
-use Prim.Native.Nat.{◌+◌, ◌-◌, ◌≤◌}
-use native.Mathlib.Omega.{arith}
-use borrow.Author.Rules.{rules}
-use lib.ListN.{length, get_or}
-use Rattle.records.specs.Laws.Rows.{narrow_at, Getting, field_fits, get-field, get-end}
+use Prim.Native.Nat.{◌-◌}
+use lib.ListN.{length}
+use Rattle.records.specs.Laws.Rows.{Getting}
 use Rattle.records.proofs.codec.get_row.Given as goal
 
 abbrev pub invariant-loop-j : goal.invariant-loop-j
@@ -11,4 +8,3 @@ invariant-loop-j l = Getting l.widths l.bytes l.at l.initial.values l.values l.i
 
 abbrev pub decreases-loop-j : goal.decreases-loop-j
 decreases-loop-j l = length l.widths - l.j
-

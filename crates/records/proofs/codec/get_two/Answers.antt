@@ -1,7 +1,6 @@
 use Prim.Native.Nat.{◌+◌, ◌<◌}
 use native.Mathlib.Omega.{arith}
 use Rattle.records.specs.Laws.Rows.{value-two}
-use borrow.Author.Rules.{rules}
 use Rattle.records.proofs.codec.get_two.Goals as goal
 
 low : (c : goal.After-wide-2) → c.wide.result < 256

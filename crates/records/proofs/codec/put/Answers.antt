@@ -1,11 +1,9 @@
 -- `image::codec::put` meets its contract: before turn j, the bytes still to store give the whole number's bytes.
 use mathlib.Core.Path.{◌≡◌, refl, ◌∙◌}
-use Prim.Native.Nat.{◌+◌, ◌-◌, ◌≤◌}
+use Prim.Native.Nat.{◌-◌}
 use native.Mathlib.Nat.{add-zero, sub-zero}
 use native.Mathlib.Omega.{arith}
-use borrow.Author.Rules.{rules}
-use lib.ListN.{length, length-set}
-use lib.Seq.{sets}
+use lib.ListN.{length-set}
 use Rattle.model.specs.Bytes.{little}
 use Rattle.records.specs.Laws.Rows.{put-turn}
 use Rattle.records.proofs.codec.put.Goals as goal

@@ -1,12 +1,8 @@
-use mathlib.Core.Path.{◌≡◌, refl, ◌∙◌}
+use mathlib.Core.Path.{◌≡◌}
 use Prim.Native.Nat.{◌+◌, ◌-◌, ◌≤◌}
-use native.Mathlib.Nat.{add-zero, sub-zero}
-use native.Mathlib.Omega.{arith}
-use borrow.Author.Rules.{rules}
-use lib.ListN.{length, length-set}
+use lib.ListN.{length}
 use lib.Seq.{sets}
 use Rattle.model.specs.Bytes.{little}
-use Rattle.records.specs.Laws.Rows.{put-turn}
 use Rattle.records.proofs.codec.put.Given as goal
 
 abbrev pub invariant-loop-j : goal.invariant-loop-j
@@ -14,4 +10,3 @@ invariant-loop-j l = (l.j ≤ l.w) × (length l.room ≡ length l.initial.room) 
 
 abbrev pub decreases-loop-j : goal.decreases-loop-j
 decreases-loop-j l = l.w - l.j
-

@@ -1,10 +1,9 @@
 -- `image::codec::put_row` meets its contract: before turn j, the fields still to put give the whole record.
 use mathlib.Core.Path.{refl}
-use Prim.Native.Nat.{◌+◌, ◌-◌, ◌≤◌}
+use Prim.Native.Nat.{◌+◌, ◌≤◌}
 use native.Mathlib.Omega.{arith}
-use borrow.Author.Rules.{rules}
 use lib.ListN.{length, get_or}
-use Rattle.records.specs.Laws.Rows.{Putting, field_fits, put-field, put-end}
+use Rattle.records.specs.Laws.Rows.{field_fits, put-field, put-end}
 use Rattle.records.proofs.codec.put_row.Goals as goal
 
 -- the field of a turn has its place

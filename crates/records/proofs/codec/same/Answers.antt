@@ -1,11 +1,7 @@
 -- `image::codec::same` meets its contract: before turn i, what is still to compare decides with what was.
-use mathlib.Core.Path.{◌≡◌, refl}
-use mathlib.Core.Bool.{◌&&◌}
-use Prim.Native.Nat.{◌-◌, ◌≤◌}
+use mathlib.Core.Path.{refl}
 use native.Mathlib.Omega.{arith}
-use borrow.Author.Rules.{rules}
-use lib.ListN.{length, drop}
-use Rattle.records.specs.Laws.Rows.{same, same_turn, same_end}
+use Rattle.records.specs.Laws.Rows.{same_turn, same_end}
 use Rattle.records.proofs.codec.same.Goals as goal
 
 pub loop-i-init : goal.loop-i-init

@@ -1,10 +1,8 @@
-use mathlib.Core.Path.{◌≡◌, refl}
+use mathlib.Core.Path.{◌≡◌}
 use mathlib.Core.Bool.{◌&&◌}
 use Prim.Native.Nat.{◌-◌, ◌≤◌}
-use native.Mathlib.Omega.{arith}
-use borrow.Author.Rules.{rules}
 use lib.ListN.{length, drop}
-use Rattle.records.specs.Laws.Rows.{same, same_turn, same_end}
+use Rattle.records.specs.Laws.Rows.{same}
 use Rattle.records.proofs.codec.same.Given as goal
 
 abbrev pub invariant-loop-i : goal.invariant-loop-i
@@ -12,4 +10,3 @@ invariant-loop-i l = (l.i ≤ length l.a) × ((l.ok && same (drop l.i l.a) (drop
 
 abbrev pub decreases-loop-i : goal.decreases-loop-i
 decreases-loop-i l = length l.a - l.i
-

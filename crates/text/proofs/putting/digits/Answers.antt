@@ -1,9 +1,5 @@
 -- The digits counted and those of what is left are one more than those of n: a turn counts one and leaves a tenth, which is less.
-use mathlib.Core.Path.{◌≡◌}
-use Prim.Native.Nat.{◌+◌}
 use native.Mathlib.Omega.{arith}
-use lib.ListN.{length}
-use Rattle.text.specs.Text.{decimal}
 use Rattle.text.specs.Laws.Decimal.{digits-fit, count-one, count_next}
 use Rattle.text.proofs.putting.digits.Goals as goal
 

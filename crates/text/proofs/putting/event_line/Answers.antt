@@ -1,7 +1,6 @@
 use native.Mathlib.Omega.{arith}
 use Rattle.text.specs.Text.{line}
 use Rattle.text.specs.Laws.Put.{and_then, within}
-use borrow.Author.Rules.{rules}
 use Rattle.text.proofs.putting.event_line.Goals as goal
 
 pub returns : goal.returns

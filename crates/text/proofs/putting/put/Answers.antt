@@ -1,7 +1,6 @@
 use mathlib.Core.Path.{sym}
 use native.Mathlib.Omega.{arith}
 use lib.Seq.{set_out}
-use borrow.Author.Rules.{rules}
 use Rattle.text.proofs.putting.put.Goals as goal
 
 pub returns-then-out-at : goal.returns-then-out-at

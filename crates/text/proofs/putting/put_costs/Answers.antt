@@ -1,5 +1,4 @@
 use Rattle.text.specs.Laws.Put.{and_then}
-use borrow.Author.Rules.{rules}
 use Rattle.text.proofs.putting.put_costs.Goals as goal
 
 pub returns : goal.returns

@@ -1,10 +1,6 @@
 -- The loop's invariant: with the digits still to put, the buffer is as it is to be. A turn puts the last of them, and the first is put after the loop.
-use mathlib.Core.Path.{ap, ◌∙◌}
 use native.Mathlib.Omega.{arith}
-use borrow.Author.Rules.{rules}
-use lib.ListN.{length}
-use lib.Seq.{length-sets}
-use Rattle.text.specs.Laws.Decimal.{Putting, digits-fit, count_next, begins, turns, ends}
+use Rattle.text.specs.Laws.Decimal.{digits-fit, count_next, begins, turns, ends}
 use Rattle.text.proofs.putting.put_decimal.Goals as goal
 
 pub overflow_add-end : goal.overflow_add-end

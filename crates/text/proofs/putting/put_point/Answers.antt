@@ -2,7 +2,6 @@ use borrow.Author.Tests.{ne_eqb}
 use native.Mathlib.Omega.{arith}
 use Rattle.text.specs.Text.{point_text}
 use Rattle.text.specs.Laws.Put.{and_then, within}
-use borrow.Author.Rules.{rules}
 use Rattle.text.proofs.putting.put_point.Goals as goal
 
 pub returns-then-answer-eq2 : goal.returns-then-answer-eq2
