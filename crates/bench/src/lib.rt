@@ -1,5 +1,6 @@
 // The engine as a measurement calls it: orders from a fresh table, each by its own event, or all in one run. Both give the same answers.
 #![tactic(auto)]
+
 ghost use Rattle.std.specs.Prelude.{◌≡◌, ◌+◌, ◌*◌, ◌/◌, ◌≤◌, min};
 ghost use Rattle.model.specs.Event as Event;
 ghost use Rattle.model.specs.Run as Run;

@@ -1,5 +1,6 @@
 // The engine for programs in C and Rust: events on images in lent buffers, with document 01's numbers. No call holds a table.
 #![tactic(auto)]
+
 mod acts;
 
 ghost use Rattle.std.specs.Prelude.{◌≡◌, ◌+◌, ◌*◌, min, length};

@@ -1,9 +1,6 @@
-use borrow.Author.Rules.{rules}
 use mathlib.Core.Path.{◌≡◌, refl, sym, ap, ◌∙◌}
 use mathlib.Core.Bool.{true}
-use Prim.Native.Nat.{◌-◌, ◌+◌, ◌*◌, ◌<◌}
 use native.Mathlib.Omega.{arith}
-use lib.ListN.{length}
 use Rattle.model.specs.declared.Made.{Made}
 use Rattle.model.specs.declared.Outcome.{Outcome}
 use Rattle.model.specs.declared.Answer.TheVariants.{Done}
@@ -12,7 +9,7 @@ use Rattle.model.specs.Good.{good}
 use Rattle.model.specs.Laws.Fees.{event-cost}
 use Rattle.model.specs.Laws.Kept.{made-good, made-sized}
 use Rattle.lock.specs.Single.{plain_of, event-code}
-use Rattle.lock.specs.Turns.{Running, places, begins, turned, run_ends}
+use Rattle.lock.specs.Turns.{places, begins, turned, run_ends}
 use Rattle.bench.proofs.bench_events.Goals as goal
 
 pub loop-i-init : goal.loop-i-init

@@ -1,4 +1,3 @@
-use borrow.Author.Rules.{rules}
 use mathlib.Core.Path.{◌∙◌, ap}
 use Rattle.model.specs.declared.Made.{Made}
 use Rattle.model.specs.Event.{number_of}

@@ -1,4 +1,3 @@
-use borrow.Author.Rules.{rules}
 use native.Mathlib.Omega.{arith}
 use Rattle.lock.specs.Single.{number_small}
 use Rattle.bench.proofs.code.Goals as goal

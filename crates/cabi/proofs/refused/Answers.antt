@@ -1,4 +1,3 @@
-use borrow.Author.Rules.{rules}
 use mathlib.Core.Path.{sym, ◌∙◌}
 use Rattle.model.specs.Event.{answer_code}
 use Rattle.cabi.specs.Calls.{check_call}

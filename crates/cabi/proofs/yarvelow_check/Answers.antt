@@ -1,4 +1,3 @@
-use borrow.Author.Rules.{rules}
 use mathlib.Core.Path.{sym, ◌∙◌}
 use Rattle.cabi.specs.Calls.{check_call}
 use Rattle.cabi.specs.Laws.Calling.{code-done}

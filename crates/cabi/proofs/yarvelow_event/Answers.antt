@@ -1,5 +1,4 @@
 use Rattle.cabi.specs.Laws.Calling.{event-unread, accepted-holds, event-made}
-use borrow.Author.Rules.{rules}
 use mathlib.Core.Path.{◌∙◌}
 use Rattle.cabi.proofs.yarvelow_event.Goals as goal
 

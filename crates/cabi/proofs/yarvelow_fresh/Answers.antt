@@ -1,9 +1,5 @@
-use borrow.Author.Rules.{rules}
-use mathlib.Core.Path.{◌≡◌, sym, ◌∙◌}
-use mathlib.Core.Bool.{true}
+use mathlib.Core.Path.{sym, ◌∙◌}
 use native.Mathlib.Omega.{arith}
-use Rattle.model.specs.Table.{size_good}
-use borrow.Author.Tests.{not-true, not-false}
 use Rattle.lock.specs.Single.{number_small}
 use Rattle.cabi.specs.Laws.Fresh.{fresh-refused, fresh-written, fresh-length}
 use Rattle.cabi.proofs.yarvelow_fresh.Goals as goal

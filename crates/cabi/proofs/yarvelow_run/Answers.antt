@@ -1,21 +1,18 @@
-use borrow.Author.Rules.{rules}
 use mathlib.Core.Path.{sym, ◌∙◌}
 use mathlib.Core.Bool.{true}
-use Prim.Native.Nat.{◌+◌, ◌-◌, ◌*◌, ◌<◌}
 use native.Mathlib.Omega.{arith}
-use lib.ListN.{length}
 use Rattle.model.specs.Run.{orders_for}
 use Rattle.lock.specs.Turns.{places}
 use Rattle.cabi.specs.Laws.Acting.{Holds}
 use Rattle.cabi.specs.Laws.Calling.{accepted-holds}
-use Rattle.cabi.specs.Laws.Running.{Running, run-unread, run-begins, run-turns, run_ends}
+use Rattle.cabi.specs.Laws.Running.{run-unread, run-begins, run-turns, run_ends}
 use Rattle.cabi.proofs.yarvelow_run.Goals as goal
 
 pub returns-then-bad-ne0 : goal.returns-then-bad-ne0
 returns-then-bad-ne0 c =
     let m = run-unread c.args.image.now c.refused.result c.refused.ensures (λ q. c.if-bad-ne0.true (c.number-bad.ensures ∙ q))
-        (orders_for c.args.orders.now c.args.answers.now)
-        c.args.answers.now in
+    (orders_for c.args.orders.now c.args.answers.now)
+    c.args.answers.now in
     record { value = m.0; image_after = m.1.0; answers_after = m.1.1 }
 
 -- the image is one whose table is good

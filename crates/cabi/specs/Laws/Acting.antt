@@ -1,5 +1,5 @@
 -- An order on an image from the fields that it leaves: the image of the table after it.
-use Rattle.std.specs.Prelude.{◌≡◌, Bool, true, false, ℕ, ◌+◌, ◌*◌, ◌%◌, ◌≤◌, ◌<◌, leb, get_or, set, drop}
+use Rattle.std.specs.Prelude.{◌≡◌, Bool, true, false, ℕ, ◌+◌, ◌*◌, ◌%◌, ◌≤◌, ◌<◌, leb, get_or, drop}
 use Rattle.std.proofs.Math.Path.{refl, sym, ap}
 use Rattle.std.proofs.Common.{◌∙◌, subst, mod-eq_of_lt}
 use mathlib.Core.List.{List, [], ◌∷◌}
@@ -13,7 +13,7 @@ use Rattle.model.specs.declared.Move.{Move}
 use Rattle.model.specs.declared.Fee.{Fee}
 use Rattle.model.specs.declared.Cell.{Cell}
 use Rattle.model.specs.declared.Cell.TheVariants.{Nothing, Status, Go, Spin, Active, Lock, CandidateGo, SeenSpin}
-use Rattle.model.specs.Table.{room, table, port_at, copies_at}
+use Rattle.model.specs.Table.{room, port_at, copies_at}
 use Rattle.model.specs.Good.{good}
 use Rattle.model.specs.Points.{point_of}
 use Rattle.model.specs.Event.{number_of, answer_code, stepping, first_of, refusals, refusal, ordered, event}

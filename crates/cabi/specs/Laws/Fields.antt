@@ -15,7 +15,7 @@ use Rattle.model.specs.declared.Shared.{Shared}
 use Rattle.model.specs.declared.Table.{Table}
 use Rattle.model.specs.declared.Cell.{Cell}
 use Rattle.model.specs.declared.Cell.TheVariants.{Nothing, Status, Go, Spin, Active, Lock, CandidateGo, SeenSpin}
-use Rattle.model.specs.Table.{put_copies as put_copies_at, room, copies, shared, table, Sized, no_port, no_copies, port_at, copies_at, put_port}
+use Rattle.model.specs.Table.{put_copies as put_copies_at, room, shared, table, Sized, no_port, no_copies, port_at, copies_at, put_port}
 use Rattle.model.specs.Step.{with_value, put_active, put_word}
 use Rattle.model.specs.Parts.Charges.{put_shared, put_copies}
 use Rattle.model.specs.Bytes.{little, sum, pack}

@@ -1,4 +1,3 @@
-use borrow.Author.Rules.{rules}
 use Rattle.cabi.specs.Laws.Acting.{Acts, port-small, carries, refused-made}
 use Rattle.cabi.proofs.acts.act_in.Goals as goal
 
@@ -6,7 +5,7 @@ pub returns-then-refused-ne0 : goal.returns-then-refused-ne0
 returns-then-refused-ne0 c =
     let s = c in
     let m = refused-made s.args.d s.args.image.now s.requires s.args.port s.args.event (λ i. (c.slice_known-1.given i).fits)
-        c.refusal_in-refused.result c.refusal_in-refused.ensures c.if-refused-ne0.true in
+    c.refusal_in-refused.result c.refusal_in-refused.ensures c.if-refused-ne0.true in
     record { value = m.0; image_after = m.1 }
 
 -- nothing refuses the order

@@ -1,4 +1,3 @@
-use borrow.Author.Rules.{rules}
 use Rattle.cabi.proofs.acts.put_front.Goals as goal
 
 pub returns-in-Add : goal.returns-in-Add

@@ -1,4 +1,3 @@
-use borrow.Author.Rules.{rules}
 use Rattle.cabi.proofs.acts.put_mark.Goals as goal
 
 pub returns-then-sets : goal.returns-then-sets

@@ -1,4 +1,3 @@
-use borrow.Author.Rules.{rules}
 use Rattle.cabi.proofs.acts.put_new.Goals as goal
 
 pub returns-then-new : goal.returns-then-new

@@ -1,4 +1,3 @@
-use borrow.Author.Rules.{rules}
 use mathlib.Core.Path.{ap, ◌∙◌}
 use Rattle.cabi.specs.Laws.Puts.{set_put, sets_put}
 use Rattle.cabi.proofs.acts.put_sets.Goals as goal

@@ -1,4 +1,3 @@
-use borrow.Author.Rules.{rules}
 use mathlib.Core.Path.{ap, ◌∙◌}
 use Rattle.model.specs.declared.Port.{Port}
 use Rattle.model.specs.Event.{number_of, first_of, refusals}
