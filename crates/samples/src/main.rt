@@ -1,9 +1,10 @@
 // Document 01's lone passage: at D = 2 port 0 enters and makes 14 steps to be inside, leaves and makes 13 to be idle. Prints the steps, the cached and
 // the distributed costs, and the point after, for each half.
 #![tactic(auto)]
-use libc::STDOUT_FILENO;
+
 use lock::events;
 use model::Table;
+use std::io;
 
 const ENTER: u64 = 1;
 
@@ -12,7 +13,7 @@ const STEP: u64 = 2;
 const LEAVE: u64 = 5;
 
 // A table, and what the steps that led to it cost.
-#[derive(Drop)]
+#[derive(Clone, Copy)]
 struct Passed {
     table: Table,
     cached: u64,
@@ -45,26 +46,19 @@ fn step(p: Passed) -> Passed {
     }
 }
 
-fn print(label: &[u8], n: u64, p: Passed) {
-    let table = p.table;
-    let port = table.ports[0];
-    io::write_all(STDOUT_FILENO, label);
-    io::print_decimal(STDOUT_FILENO, n);
-    io::write_all(STDOUT_FILENO, b" steps, cached ");
-    io::print_decimal(STDOUT_FILENO, p.cached);
-    io::write_all(STDOUT_FILENO, b", distributed ");
-    io::print_decimal(STDOUT_FILENO, p.distributed);
-    io::write_all(STDOUT_FILENO, b", point ");
-    io::print_decimal(STDOUT_FILENO, port.point as u64);
-    io::write_all(STDOUT_FILENO, b"\n");
+fn print(rt: &impl Print, label: &str, n: u64, p: Passed) -> io::Result<()> {
+    let cached = p.cached;
+    let distributed = p.distributed;
+    let point = p.table.ports[0].point;
+    println!(rt; "{label}: {n} steps, cached {cached}, distributed {distributed}, point {point}")
 }
 
-fn main() {
+fn main(rt: HostRuntime) -> io::Result<()> {
     let made = events::fresh(2);
     let entered = events::event(made.table, 0, ENTER);
     let inside = steps(entered.table, 14);
-    print(b"in: ", 14, inside);
+    print(&rt, "in", 14, inside)?;
     let left = events::event(inside.table, 0, LEAVE);
     let home = steps(left.table, 13);
-    print(b"out: ", 13, home);
+    print(&rt, "out", 13, home)
 }

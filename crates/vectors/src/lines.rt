@@ -6,7 +6,7 @@ use lock::events;
 use model::{Answer, Table};
 
 // Where the next line begins, the number that this one wants, and whether all is as it wants.
-#[derive(Drop)]
+#[derive(Clone, Copy)]
 pub struct Line {
     pub next: usize,
     pub number: u64,
@@ -17,11 +17,11 @@ pub struct Line {
 fn written(table: Table, want: &[u8]) -> bool {
     let mut out = [0u8; SPACE];
     let w = writer::write(table, &mut out);
-    check::same(text::start(&out, w.length), want)
+    text::start(&out, w.length) == want
 }
 
 // The answer that a line wants: its number, and of BAD TABLE kind, port and place, which are 0 of all others.
-#[derive(Drop)]
+#[derive(Clone, Copy)]
 struct Wanted {
     number: u64,
     kind: u64,
@@ -80,7 +80,7 @@ fn image_line(text: &[u8], at: usize) -> Line {
 }
 
 // An order and the costs that are wanted.
-#[derive(Drop)]
+#[derive(Clone, Copy)]
 struct Order {
     port: u64,
     event: u64,
@@ -94,10 +94,7 @@ fn event_right(bytes: &[u8], o: Order, w: Wanted, want: &[u8]) -> bool {
     let made = reader::read(bytes);
     let read = made.answer;
     if w.number == 1 {
-        return same_answer(read, w)
-            & (o.cached == 0)
-            & (o.distributed == 0)
-            & check::same(bytes, want);
+        return same_answer(read, w) & (o.cached == 0) & (o.distributed == 0) & (bytes == want);
     }
     let r = events::event(made.table, o.port, o.event);
     let same = (r.cached == o.cached) & (r.distributed == o.distributed) & written(r.table, want);

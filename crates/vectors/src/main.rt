@@ -1,12 +1,14 @@
 // Runs the vectors of images and of events, and every one-byte damage of one image; prints how many lines are right, and how often each number was answered.
 #![tactic(auto)]
+
 mod lines;
 mod text;
 
-ghost use Rattle.std.specs.Prelude.{◌<◌};
+ghost use Rattle.std.specs.Prelude.{◌≡◌, ◌<◌, ◌≤◌, length, IfOk};
 
 use image::reader;
-use libc::STDOUT_FILENO;
+use std::rt::Files;
+use std::{fs, io};
 
 // An image of two ports.
 const IMAGE: [u8; 74] = [
@@ -16,7 +18,7 @@ const IMAGE: [u8; 74] = [
 ];
 
 // How many lines were read, how many of them are right, and how many were answered 0, 1 and 11.
-#[derive(Drop)]
+#[derive(Clone, Copy)]
 struct Tally {
     lines: u64,
     right: u64,
@@ -108,38 +110,75 @@ fn damages() -> Tally {
     t
 }
 
-fn print(label: &[u8], n: u64) {
-    io::write_all(STDOUT_FILENO, label);
-    io::print_decimal(STDOUT_FILENO, n);
+fn print(rt: &impl Print, label: &str, n: u64) -> io::Result<()> {
+    print!(rt; "{label}{n}")
 }
 
-fn print_answers(t: Tally) {
-    print(b" done ", t.done);
-    print(b" bad table ", t.badtable);
-    print(b" bad image ", t.badimage);
-    io::write_all(STDOUT_FILENO, b"\n");
+fn print_answers(rt: &impl Print, t: Tally) -> io::Result<()> {
+    print(rt, " done ", t.done)?;
+    print(rt, " bad table ", t.badtable)?;
+    print(rt, " bad image ", t.badimage)?;
+    println!(rt)
 }
 
-// Runs the lines of a file; it is shorter than the space for it.
-fn run_file(label: &[u8], path: &[u8], events: bool) {
-    let fd = os::open_read(path);
-    if fd < 0 {
-        os::fail(path);
-        return;
+// Reads until the space is full or the file ends, and gives how many bytes were read.
+fn read_full<I: io::Read>(file: &mut I, space: &mut [u8]) -> io::Result<usize>
+    ensures { IfOk result (λ n. n ≤ length space.new) }
+{
+    let mut n: usize = 0;
+    for _ in 0..u64::MAX {
+        let got = file.read(&mut space[n..])?;
+        if got == 0 {
+            break;
+        }
+        n += got;
     }
-    let mut space = [0u8; 600000];
-    let n = io::read_full(fd, &mut space);
-    libc::close(fd);
-    let t = all_lines(&space[..n], events);
-    print(label, t.lines);
-    print(b" right ", t.right);
-    print_answers(t);
+    Ok(n)
 }
 
-fn main() {
-    run_file(b"images ", b"images.txt", false);
-    run_file(b"events ", b"events.txt", true);
+// Runs the lines of a file, which is shorter than the space for it.
+fn run_lines<R: Print, I: io::Read>(
+    rt: &R,
+    label: &str,
+    file: &mut I,
+    space: &mut [u8],
+    events: bool,
+) -> io::Result<()> {
+    let n = read_full(file, space)?;
+    let t = all_lines(&space[..n], events);
+    print(rt, label, t.lines)?;
+    print(rt, " right ", t.right)?;
+    print_answers(rt, t)
+}
+
+// Room for the longest file. Only its length is known, since no proof could write out so many zeros.
+fn file_space() -> [u8; 600000]
+    ensures { 600000 ≡ length result }
+{
+    [0; 600000]
+}
+
+// A file that cannot be opened is left out, and said to be.
+fn run_file<R: Files + Print + Eprint>(
+    rt: &R,
+    label: &str,
+    path: &str,
+    events: bool,
+) -> io::Result<()> {
+    let mut file = match fs::open(rt, path) {
+        Ok(file) => file,
+        Err(e) => {
+            return eprintln!(rt; "{path}: {e}");
+        }
+    };
+    let mut space = file_space();
+    run_lines(rt, label, &mut file, &mut space, events)
+}
+
+fn main(rt: HostRuntime) -> io::Result<()> {
+    run_file(&rt, "images ", "images.txt", false)?;
+    run_file(&rt, "events ", "events.txt", true)?;
     let t = damages();
-    print(b"damages ", t.lines);
-    print_answers(t);
+    print(&rt, "damages ", t.lines)?;
+    print_answers(&rt, t)
 }

@@ -5,14 +5,14 @@ ghost use Rattle.std.specs.Prelude.{◌≤◌};
 pub const SPACE: usize = 2602;
 
 // A field that stands for bytes: how many, and the place after it.
-#[derive(Drop)]
+#[derive(Clone, Copy)]
 pub struct Field {
     pub length: usize,
     pub next: usize,
 }
 
 // A number, and the place after it.
-#[derive(Drop)]
+#[derive(Clone, Copy)]
 pub struct Number {
     pub value: u64,
     pub next: usize,
