@@ -6,7 +6,7 @@ use Rattle.model.specs.declared.Made.{Made}
 use Rattle.model.specs.declared.Answer.{Answer}
 use Rattle.model.specs.Event.{number_of, fresh, first_of, refusals, ordered}
 use Rattle.model.specs.Paid.{paid_answer}
-use Rattle.model.specs.Statements.{one}
+use Rattle.model.proofs.Statements.{one}
 
 pub number-one : (a : Answer) (r s : ℕ) → r ≡ number_of a → s ≡ number_of a → r ≡ s
 number-one a r s = one

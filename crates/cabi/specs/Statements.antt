@@ -6,7 +6,7 @@ use Rattle.model.specs.Table.{room, Sized, fresh_table}
 use Rattle.model.specs.Good.{good}
 use Rattle.model.specs.Event.{number_of, stepping, crash}
 use Rattle.model.specs.Run.{Order, order, ran, codes, stepless}
-use Rattle.model.specs.Statements.{one}
+use Rattle.model.proofs.Statements.{one}
 use Rattle.model.specs.Bytes.{Bytes}
 use Rattle.model.specs.Layout.{size}
 use Rattle.image.specs.Image.{encode, decode, room_after}

@@ -10,7 +10,7 @@ use Rattle.model.specs.declared.Charge.{Charge}
 use Rattle.model.specs.declared.Cell.{Cell}
 use Rattle.model.specs.Table.{latest}
 use Rattle.model.specs.Parts.Charges.{home, fee_of, charge}
-use Rattle.model.specs.Statements.{one}
+use Rattle.model.proofs.Statements.{one}
 
 pub home-one : (cell : Cell) (k : ℕ) (w : Work) (r s : ℕ) → r ≡ home cell k w → s ≡ home cell k w → r ≡ s
 home-one cell k w r s = one

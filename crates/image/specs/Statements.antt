@@ -9,7 +9,7 @@ use Rattle.model.specs.declared.Answer.TheVariants.{Done}
 use Rattle.model.specs.Table.{room, Sized, fresh_table}
 use Rattle.model.specs.Good.{good}
 use Rattle.model.specs.Event.{number_of, fault_in}
-use Rattle.model.specs.Statements.{one}
+use Rattle.model.proofs.Statements.{one}
 use Rattle.model.specs.Bytes.{Bytes}
 use Rattle.image.specs.declared.Written.{Written}
 use Rattle.image.specs.Image.{encode, decode, write_answer, written, room_after}

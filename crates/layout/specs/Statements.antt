@@ -6,7 +6,7 @@ use Rattle.model.specs.declared.Cell.{Cell}
 use Rattle.model.specs.declared.Port.{Port}
 use Rattle.model.specs.declared.Copies.{Copies}
 use Rattle.model.specs.declared.Shared.{Shared}
-use Rattle.model.specs.Statements.{one}
+use Rattle.model.proofs.Statements.{one}
 use Rattle.model.specs.Bytes.{sum, pack, unpack}
 use Rattle.layout.specs.Places.{set_place}
 use Rattle.model.specs.Layout.{head_widths, shared_widths, port_widths, set_width, copied_widths, copies_widths, version, shared_values, port_values, copied_values, copies_values, shared_of, port_of, copies_of, head_values, port_place, copies_place, size}

@@ -4,7 +4,7 @@ use Rattle.lines.specs.declared.Part.{Part}
 use Rattle.lines.specs.declared.Stage.{Stage}
 use Rattle.lines.specs.declared.Act.{Act}
 use Rattle.lines.specs.Reading.{act, live, cut_off}
-use Rattle.model.specs.Statements.{one}
+use Rattle.model.proofs.Statements.{one}
 
 pub act-one : (s : Stage) (p : Part) (b : ℕ) (x y : Act) → x ≡ act s p b → y ≡ act s p b → x ≡ y
 act-one s p b x y = one

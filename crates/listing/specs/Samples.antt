@@ -2,7 +2,7 @@
 use Rattle.std.specs.Prelude.{◌≡◌, ℕ, zero, suc, ◌+◌, Bool, true, false, ◌&&◌, List, [], ◌∷◌, ◌==◌, refl}
 use Prim.Native.Char.{code}
 use Prim.Native.String.{String, len, char_at}
-use Rattle.model.specs.Laws.Compute.{everything}
+use Rattle.model.proofs.Laws.Compute.{everything}
 use Rattle.listing.specs.Listing.{listing}
 use Rattle.listing.specs.Laws.Compute.{whole}
 

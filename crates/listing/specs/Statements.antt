@@ -4,7 +4,7 @@ use Rattle.std.specs.Prelude.{◌≡◌, ℕ, ◌+◌, ◌^◌, ◌<◌, ◌≤�
 use Rattle.std.proofs.lemmas.List.Edits.{sets}
 use Rattle.model.specs.declared.Table.{Table}
 use Rattle.model.specs.Event.{event}
-use Rattle.model.specs.Statements.{one}
+use Rattle.model.proofs.Statements.{one}
 use Rattle.listing.specs.declared.Run.{Run}
 use Rattle.listing.specs.declared.Fed.{Fed}
 use Rattle.lines.specs.Line.{orders, letter, number, event_of}

@@ -16,9 +16,9 @@ use Rattle.model.specs.Event.{number_of, answer_code, ordered, stepping}
 use Rattle.model.specs.Run.{code_of}
 use Rattle.model.specs.Parts.Steps.{touch_of, home_of}
 use Rattle.model.specs.Paid.{paid_answer, paid_event}
-use Rattle.model.specs.Laws.Mask.{within-lt}
-use Rattle.model.specs.Laws.Cases.{unrefused-step}
-use Rattle.model.specs.Laws.Kept.{room_fits}
+use Rattle.model.proofs.Laws.Mask.{within-lt}
+use Rattle.model.proofs.Laws.Cases.{unrefused-step}
+use Rattle.model.proofs.Laws.Kept.{room_fits}
 use Rattle.lock.specs.declared.orders.Acted.{Acted}
 use Rattle.lock.specs.Parts.{view_on, stepped_on, kept, leaves, acted_on}
 use Rattle.lock.specs.Sight.{Sight, assembled, set_at, plain_code, refused, obeyed, moved}

@@ -10,7 +10,7 @@ use Rattle.model.specs.declared.View.{View}
 use Rattle.model.specs.Points.{Tens, two, three, four, none, promotion, points, point_of, one_of}
 use Rattle.model.specs.Good.{every_below}
 use Rattle.model.specs.Parts.Moves.{changed, step}
-use Rattle.model.specs.Laws.Tests.{every-below}
+use Rattle.model.proofs.Laws.Tests.{every-below}
 use Rattle.points.specs.Places.{nones, from}
 
 abbrev pub Outside : ℕ → List ℕ → Type 0

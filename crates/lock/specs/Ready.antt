@@ -15,9 +15,9 @@ use Rattle.model.specs.Event.{number_of, stepping, first_of, refusals}
 use Rattle.model.specs.Parts.Charges.{home}
 use Rattle.model.specs.Parts.Steps.{touch_of, home_of, view_of}
 use Rattle.model.specs.Paid.{placed, paid_answer}
-use Rattle.model.specs.Laws.Mask.{within-lt}
-use Rattle.model.specs.Laws.Cases.{unrefused-step}
-use Rattle.model.specs.Laws.Kept.{room_fits}
+use Rattle.model.proofs.Laws.Mask.{within-lt}
+use Rattle.model.proofs.Laws.Cases.{unrefused-step}
+use Rattle.model.proofs.Laws.Kept.{room_fits}
 use Rattle.lock.specs.Sight.{Sight}
 
 -- the tests that it has passed

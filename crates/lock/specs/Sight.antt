@@ -14,10 +14,10 @@ use Rattle.model.specs.declared.Answer.{Answer}
 use Rattle.model.specs.declared.Answer.TheVariants.{Done}
 use Rattle.model.specs.Table.{most, table, no_port, port_at, copies_at, put_port}
 use Rattle.model.specs.Ring.{next}
-use Rattle.model.specs.Laws.Tests.{conjunct, implied, split}
-use Rattle.model.specs.Laws.Mask.{within-lt}
-use Rattle.model.specs.Laws.Ring.{next-any}
-use Rattle.model.specs.Laws.Stepped.{carried-parts}
+use Rattle.model.proofs.Laws.Tests.{conjunct, implied, split}
+use Rattle.model.proofs.Laws.Mask.{within-lt}
+use Rattle.model.proofs.Laws.Ring.{next-any}
+use Rattle.model.proofs.Laws.Stepped.{carried-parts}
 use Rattle.model.specs.Points.{settled}
 use Rattle.model.specs.Good.{whole}
 use Rattle.model.specs.Cost.{outcome, free}

@@ -16,11 +16,11 @@ use Rattle.model.specs.Paid.{paid_answer, paid_event}
 use Rattle.model.specs.Parts.Charges.{home}
 use Rattle.model.specs.Parts.Steps.{touch_of, stepped}
 use Rattle.model.specs.Parts.Rules.{slot_of}
-use Rattle.model.specs.Laws.Tests.{split}
-use Rattle.model.specs.Laws.Stepped.{carried-parts}
-use Rattle.model.specs.Laws.Faults.{place-good}
-use Rattle.model.specs.Laws.Fees.{event-cost}
-use Rattle.model.specs.Laws.Paid.{paid-event}
+use Rattle.model.proofs.Laws.Tests.{split}
+use Rattle.model.proofs.Laws.Stepped.{carried-parts}
+use Rattle.model.proofs.Laws.Faults.{place-good}
+use Rattle.model.proofs.Laws.Fees.{event-cost}
+use Rattle.model.proofs.Laws.Paid.{paid-event}
 use Rattle.lock.specs.declared.orders.Acted.{Acted}
 use Rattle.lock.specs.Parts.{kept}
 use Rattle.lock.specs.Sight.{first-each, plain-answer}

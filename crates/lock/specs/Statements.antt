@@ -8,7 +8,7 @@ use Rattle.model.specs.declared.Move.{Move}
 use Rattle.model.specs.declared.Touch.{Touch}
 use Rattle.model.specs.Step.{with_value}
 use Rattle.model.specs.Parts.Moves.{tried}
-use Rattle.model.specs.Statements.{one}
+use Rattle.model.proofs.Statements.{one}
 use Rattle.lock.specs.declared.orders.Acted.{Acted}
 use Rattle.lock.specs.Parts.{acted_on}
 

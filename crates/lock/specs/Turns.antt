@@ -25,10 +25,10 @@ use Rattle.model.specs.Parts.Rules.{slot_of}
 use Rattle.model.specs.Run.{order, ran, orders, code_of, codes, run, run_answers}
 use Rattle.model.specs.Paid.{paid_answer, paid_event}
 use Rattle.rules.specs.Check.{slot-own}
-use Rattle.model.specs.Laws.After.{after-sized}
-use Rattle.model.specs.Laws.Kept.{good-after}
-use Rattle.model.specs.Laws.Paid.{paid-event}
-use Rattle.model.specs.Laws.Fees.{charge-cost}
+use Rattle.model.proofs.Laws.After.{after-sized}
+use Rattle.model.proofs.Laws.Kept.{good-after}
+use Rattle.model.proofs.Laws.Paid.{paid-event}
+use Rattle.model.proofs.Laws.Fees.{charge-cost}
 use Rattle.lock.specs.declared.orders.Acted.{Acted}
 use Rattle.lock.specs.Parts.{move_on, stepped_on}
 use Rattle.lock.specs.Sight.{plain_code, refused}

@@ -3,7 +3,7 @@ use Rattle.std.specs.Prelude.{◌≡◌, ℕ, ◌+◌, ◌/◌, ◌^◌, ◌<◌
 use Rattle.std.proofs.Common.{◌∙◌, ap, inl, inr, le_refl, ne_of_gt, eq-zero-or-pos, div-le_self, arith, eq-eqb, ne_eqb}
 use Rattle.std.specs.Int.Count.{count_trailing_zeros, trailing_of_zero}
 use Rattle.model.specs.Ring.{next}
-use Rattle.model.specs.Laws.Ring.{next-lowest, next-above}
+use Rattle.model.proofs.Laws.Ring.{next-lowest, next-above}
 
 module _ (o a : ℕ) (h : o < 64) (l : a < 2 ^ 64) where
   lower : (a ≡ 0) ⊎ (0 < a) → a / 2 ^ o / 2 ≡ 0 → count_trailing_zeros 64 a ≡ cond (a == 0) 64 (next 64 o a)

@@ -2,7 +2,7 @@
 use Rattle.std.specs.Prelude.{◌≡◌, ℕ, ◌-◌, ◌%◌, ◌^◌, Bool, cond, ◌==◌}
 use Rattle.model.specs.Mask.{stands, within, joined, alone, added}
 use Rattle.model.specs.Ring.{next}
-use Rattle.model.specs.Statements.{one}
+use Rattle.model.proofs.Statements.{one}
 
 pub stands_one : (m k : ℕ) (r s : Bool) → r ≡ stands m k → s ≡ stands m k → r ≡ s
 stands_one m k r s = one

@@ -12,7 +12,3 @@ pub mod Event
 pub mod Run
 pub mod Paid
 pub mod Parts
-pub mod Laws
-pub mod Statements
-pub mod Samples
-pub mod Witnesses

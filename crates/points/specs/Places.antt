@@ -11,7 +11,7 @@ use Rattle.model.specs.declared.Cell.TheVariants.{Nothing, Status, Go, Spin, Act
 use Rattle.model.specs.declared.Kind.{Kind}
 use Rattle.model.specs.declared.Kind.TheVariants.{Read, Write, Add, Swap}
 use Rattle.model.specs.declared.Kind.TheVariants as Kinds
-use Rattle.model.specs.Laws.Tests.{every-below}
+use Rattle.model.proofs.Laws.Tests.{every-below}
 use Rattle.model.specs.Mask.{stands}
 use Rattle.model.specs.Points.{none, point_of, one_of, own_place, seen_place, candidate_place, candidate_spin_place, points}
 use Rattle.model.specs.Good.{every_below, named}

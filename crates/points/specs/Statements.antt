@@ -5,7 +5,7 @@ use Rattle.model.specs.declared.Touch.{Touch}
 use Rattle.model.specs.Mask.{stands}
 use Rattle.model.specs.Points.{point_of, settled}
 use Rattle.model.specs.Parts.Charges.{touch_at}
-use Rattle.model.specs.Statements.{one}
+use Rattle.model.proofs.Statements.{one}
 
 pub has_one : (places n : ℕ) (r s : Bool) → r ≡ (ltb n 46 && stands places n) → s ≡ (ltb n 46 && stands places n) → r ≡ s
 has_one places n r s = one

@@ -4,7 +4,7 @@ use Rattle.model.specs.declared.Word.{Word}
 use Rattle.model.specs.declared.Port.{Port}
 use Rattle.model.specs.declared.Copies.{Copies}
 use Rattle.model.specs.declared.Shared.{Shared}
-use Rattle.model.specs.Statements.{one}
+use Rattle.model.proofs.Statements.{one}
 use Rattle.model.specs.Bytes.{sum}
 use Rattle.model.specs.Layout.{shared_widths, port_widths, set_width, copied_widths, copies_widths, head_widths, shared_of, port_of, copies_of, port_place, copies_place}
 use Rattle.records.specs.Records.{there, put_at, ports_in}

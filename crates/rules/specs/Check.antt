@@ -16,9 +16,9 @@ use Rattle.model.specs.Points.{one_of, own_place, seen_place, candidate_place, c
 use Rattle.model.specs.Good.{Rule, every_below, implies, place_empty, room_empty, spin_good, shared_rules, work_rules, port_rules, ports_rules, rules, nowhere, lower, bad_in}
 use Rattle.model.specs.Parts.Good.{fields_good, work_good, copies_good, shared_good, port_empty, port_good}
 use Rattle.model.specs.Parts.Rules.{own_tests, unseen_tests, seen_tests, port_tests, joined_port, ports_of, slot_of}
-use Rattle.model.specs.Laws.Tests.{conjunct, below-every}
-use Rattle.model.specs.Laws.Listed.{rules_at, start_rules, same_tests, empty-listed, port-listed}
-use Rattle.model.specs.Laws.Faults.{bad-append, none-bad, whole-first, bad-whole}
+use Rattle.model.proofs.Laws.Tests.{conjunct, below-every}
+use Rattle.model.proofs.Laws.Listed.{rules_at, start_rules, same_tests, empty-listed, port-listed}
+use Rattle.model.proofs.Laws.Faults.{bad-append, none-bad, whole-first, bad-whole}
 
 -- numbers joined bit by bit are 0 where each of them is
 pub or-none : (a b : ℕ) → eqb (bit_or a b) 0 ≡ (eqb a 0 && eqb b 0)

@@ -9,7 +9,7 @@ use Rattle.model.specs.Points.{one_of}
 use Rattle.model.specs.Bytes.{sum}
 use Rattle.model.specs.Layout.{port_widths, set_width, port_place}
 use Rattle.model.specs.Good.{Rule, implies, fault, whole, spin_field, nowhere, lower}
-use Rattle.model.specs.Laws.Faults.{bad-append}
+use Rattle.model.proofs.Laws.Faults.{bad-append}
 
 -- the field that a spin number of port k is charged to, by the bytes before it
 unfoldable pub spin_fault : ℕ → ℕ → ℕ → Fault

@@ -7,7 +7,7 @@ use Rattle.model.specs.declared.Shared.{Shared}
 use Rattle.model.specs.Parts.Good.{shared_good}
 use Rattle.model.specs.Table.{size_good}
 use Rattle.model.specs.Parts.Rules.{own_tests, unseen_tests, seen_tests, port_tests, joined_port, ports_of, slot_of}
-use Rattle.model.specs.Statements.{one}
+use Rattle.model.proofs.Statements.{one}
 
 pub size-good-one : (d : ℕ) (r s : Bool) → r ≡ size_good d → s ≡ size_good d → r ≡ s
 size-good-one d r s = one

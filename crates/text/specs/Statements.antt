@@ -5,8 +5,8 @@ use Rattle.std.proofs.lemmas.List.Edits.{sets}
 use Rattle.model.specs.declared.Table.{Table}
 use Rattle.model.specs.Good.{good}
 use Rattle.model.specs.Event.{number_of, event}
-use Rattle.model.specs.Laws.Paid.{no-port}
-use Rattle.model.specs.Statements.{one}
+use Rattle.model.proofs.Laws.Paid.{no-port}
+use Rattle.model.proofs.Statements.{one}
 use Rattle.lines.specs.Line.{space, nought, digit, value_of}
 use Rattle.text.specs.Text.{decimal, point_text}
 use Rattle.text.specs.Laws.Decimal.{digits-one}

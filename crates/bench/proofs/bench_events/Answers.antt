@@ -6,8 +6,8 @@ use Rattle.model.specs.declared.Outcome.{Outcome}
 use Rattle.model.specs.declared.Answer.TheVariants.{Done}
 use Rattle.model.specs.Event.{number_of}
 use Rattle.model.specs.Good.{good}
-use Rattle.model.specs.Laws.Fees.{event-cost}
-use Rattle.model.specs.Laws.Kept.{made-good, made-sized}
+use Rattle.model.proofs.Laws.Fees.{event-cost}
+use Rattle.model.proofs.Laws.Kept.{made-good, made-sized}
 use Rattle.lock.specs.Single.{plain_of, event-code}
 use Rattle.lock.specs.Turns.{places, begins, turned, run_ends}
 use Rattle.bench.proofs.bench_events.Goals as goal

@@ -21,9 +21,9 @@ use Rattle.model.specs.Run.{code_of}
 use Rattle.model.specs.Parts.Moves.{view, tried}
 use Rattle.model.specs.Parts.Charges.{touch_at, home, holders, fee_of}
 use Rattle.model.specs.Parts.Steps.{touch_of, home_of, view_of, move_of, setting, marked}
-use Rattle.model.specs.Laws.Rules.{port-rules}
-use Rattle.model.specs.Laws.Kept.{room_fits}
-use Rattle.model.specs.Laws.Fees.{charge-cost}
+use Rattle.model.proofs.Laws.Rules.{port-rules}
+use Rattle.model.proofs.Laws.Kept.{room_fits}
+use Rattle.model.proofs.Laws.Fees.{charge-cost}
 use Rattle.costs.specs.Single.{charge-fee}
 use Rattle.lock.specs.Single.{event-code}
 use Rattle.model.specs.Bytes.{Bytes, sum, unpack}

@@ -16,9 +16,9 @@ use Rattle.model.specs.Table.{Sized}
 use Rattle.model.specs.Good.{good}
 use Rattle.model.specs.Event.{number_of, answer_code, refusal, event}
 use Rattle.model.specs.Run.{Order, order, after, ran, code_of, codes}
-use Rattle.model.specs.Laws.Cases.{refused-free}
-use Rattle.model.specs.Laws.After.{after-sized, after-d}
-use Rattle.model.specs.Laws.Kept.{good-after}
+use Rattle.model.proofs.Laws.Cases.{refused-free}
+use Rattle.model.proofs.Laws.After.{after-sized, after-d}
+use Rattle.model.proofs.Laws.Kept.{good-after}
 use Rattle.model.specs.Bytes.{Bytes}
 use Rattle.model.specs.Layout.{d_in}
 use Rattle.records.specs.Records.{ports_in}

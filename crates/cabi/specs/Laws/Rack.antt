@@ -16,12 +16,12 @@ use Rattle.model.specs.Points.{one_of}
 use Rattle.model.specs.Good.{good}
 use Rattle.model.specs.Event.{number_of, answer_code, stepping, crash}
 use Rattle.model.specs.Run.{Order, order, answered, after, ran, reached, done, steps_at, stepless}
-use Rattle.model.specs.Laws.Tests.{conjunct}
-use Rattle.model.specs.Laws.After.{fresh-sized}
-use Rattle.model.specs.Laws.Kept.{good-fresh}
-use Rattle.model.specs.Laws.Rules.{shared-rules}
-use Rattle.model.specs.Laws.Reached.{reached-sized, reached-d}
-use Rattle.model.specs.Statements.{always-good, one_inside, keeps, returns}
+use Rattle.model.proofs.Laws.Tests.{conjunct}
+use Rattle.model.proofs.Laws.After.{fresh-sized}
+use Rattle.model.proofs.Laws.Kept.{good-fresh}
+use Rattle.model.proofs.Laws.Rules.{shared-rules}
+use Rattle.model.proofs.Laws.Reached.{reached-sized, reached-d}
+use Rattle.model.proofs.Statements.{always-good, one_inside, keeps, returns}
 use Rattle.model.specs.Bytes.{value, sum, unpack}
 use Rattle.model.specs.Layout.{head_widths, shared_widths, port_widths, port_of, port_place, size}
 use Rattle.layout.specs.Laws.Inside.{port-inside, copied-inside}

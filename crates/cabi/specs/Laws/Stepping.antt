@@ -24,10 +24,10 @@ use Rattle.model.specs.Event.{number_of, stepping, first_of, refusals, refusal, 
 use Rattle.model.specs.Parts.Moves.{view, released, granted, step, sees, tried}
 use Rattle.model.specs.Parts.Charges.{touch_at, holders, put_shared, put_copies, fee_of}
 use Rattle.model.specs.Parts.Steps.{touch_of, home_of, view_of, move_of, shared_after, copies_after, charge_of, marked, stepped}
-use Rattle.model.specs.Laws.Cases.{unrefused-step}
-use Rattle.model.specs.Laws.Rules.{shared-rules, port-rules}
-use Rattle.model.specs.Laws.Kept.{room_fits}
-use Rattle.model.specs.Laws.Stepped.{carried-parts}
+use Rattle.model.proofs.Laws.Cases.{unrefused-step}
+use Rattle.model.proofs.Laws.Rules.{shared-rules, port-rules}
+use Rattle.model.proofs.Laws.Kept.{room_fits}
+use Rattle.model.proofs.Laws.Stepped.{carried-parts}
 use Rattle.costs.specs.Single.{paid, charge-fee}
 
 -- what all share, with ACTIVE of the move after an addition, and its word after a swap

@@ -7,9 +7,9 @@ use Rattle.std.proofs.Math.Seq.{length-sets}
 use Rattle.model.specs.Table.{room, no_port, no_copies, fresh_table, size_good}
 use Rattle.model.specs.Good.{whole, good, bad_in}
 use Rattle.model.specs.Parts.Good.{all_good}
-use Rattle.model.specs.Laws.Listed.{good-all}
-use Rattle.model.specs.Laws.Faults.{bad-whole}
-use Rattle.model.specs.Laws.Kept.{good-fresh}
+use Rattle.model.proofs.Laws.Listed.{good-all}
+use Rattle.model.proofs.Laws.Faults.{bad-whole}
+use Rattle.model.proofs.Laws.Kept.{good-fresh}
 use Rattle.rules.specs.Check.{size-good-fits}
 use Rattle.model.specs.Bytes.{little, sum, pack}
 use Rattle.model.specs.Layout.{shared_widths, port_widths, copied_widths, copies_widths, head_widths, shared_values, port_values, copied_values, copies_values, head_values, port_place, copies_place, size}

@@ -15,9 +15,9 @@ use Rattle.model.specs.Table.{room, port_at, copies_at, size_good}
 use Rattle.model.specs.Good.{Rule, every_below, place_empty, room_empty, shared_rules, port_rules, ports_rules, good, nowhere, lower, bad_in}
 use Rattle.model.specs.Parts.Good.{shared_good, port_empty, place_good, all_good}
 use Rattle.model.specs.Parts.Rules.{port_tests}
-use Rattle.model.specs.Laws.Tests.{below-every}
-use Rattle.model.specs.Laws.Listed.{rules_at, good-all}
-use Rattle.model.specs.Laws.Faults.{bad-append}
+use Rattle.model.proofs.Laws.Tests.{below-every}
+use Rattle.model.proofs.Laws.Listed.{rules_at, good-all}
+use Rattle.model.proofs.Laws.Faults.{bad-append}
 use Rattle.rules.specs.Check.{port-whole, work-made, shared-made, bad_below, shared-any, port-any}
 use Rattle.model.specs.Layout.{port_widths, port_values, copies_values, port_of, port_place, d_in, is_image}
 use Rattle.records.specs.Records.{there, ports_in}

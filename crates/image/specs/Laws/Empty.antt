@@ -8,8 +8,8 @@ use Rattle.model.specs.declared.Table.{Table}
 use Rattle.model.specs.Table.{room, no_port, no_copies, port_at, copies_at, size_good}
 use Rattle.model.specs.Good.{every_below, good}
 use Rattle.model.specs.Parts.Good.{shared_good, port_empty, place_good, all_good}
-use Rattle.model.specs.Laws.Tests.{conjunct, every-below}
-use Rattle.model.specs.Laws.Listed.{good-all}
+use Rattle.model.proofs.Laws.Tests.{conjunct, every-below}
+use Rattle.model.proofs.Laws.Listed.{good-all}
 
 empty-place : (t : Table) → good t ≡ true → (k : ℕ) → t.shared.d ≤ k → k < room → port_empty (port_at t k) (copies_at t k) ≡ true
 unfolding all_good place_good

@@ -8,8 +8,8 @@ use Rattle.model.specs.declared.Table.{Table}
 use Rattle.model.specs.Table.{room, most, port_at, copies_at}
 use Rattle.model.specs.Mask.{within}
 use Rattle.model.specs.Good.{named, good}
-use Rattle.model.specs.Laws.Mask.{within-lt}
-use Rattle.model.specs.Laws.Rules.{shared-rules, port-rules}
+use Rattle.model.proofs.Laws.Mask.{within-lt}
+use Rattle.model.proofs.Laws.Rules.{shared-rules, port-rules}
 use Rattle.model.specs.Bytes.{sum}
 use Rattle.model.specs.Layout.{shared_widths, port_widths, set_width, copied_widths, copies_widths, head_widths, shared_values, port_values, copied_values, copies_values, version, port_place, head_values}
 use Rattle.layout.specs.Laws.Records.{Fits, AllFit}

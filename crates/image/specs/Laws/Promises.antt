@@ -7,7 +7,7 @@ use Rattle.model.specs.declared.Answer.TheVariants.{Done}
 use Rattle.model.specs.Table.{Sized}
 use Rattle.model.specs.Good.{good}
 use Rattle.model.specs.Event.{number_of}
-use Rattle.model.specs.Laws.Rules.{shared-rules}
+use Rattle.model.proofs.Laws.Rules.{shared-rules}
 use Rattle.model.specs.Bytes.{Bytes}
 use Rattle.model.specs.Layout.{size, d_in, is_image}
 use Rattle.records.specs.Records.{ports_in}

@@ -13,7 +13,7 @@ use Rattle.model.specs.declared.Table.{Table}
 use Rattle.model.specs.declared.Answer.TheVariants.{Done}
 use Rattle.model.specs.Table.{room, Sized, no_port, no_copies, size_good}
 use Rattle.model.specs.Good.{good}
-use Rattle.model.specs.Laws.Rules.{shared-rules}
+use Rattle.model.proofs.Laws.Rules.{shared-rules}
 use Rattle.model.specs.Bytes.{sum, pack, unpack, unpacks}
 use Rattle.model.specs.Layout.{shared_widths, port_widths, copied_widths, copies_widths, head_widths, shared_values, port_values, copied_values, copies_values, head_values, shared_of, port_of, copies_of, port_place, copies_place, size, d_in, is_image}
 use Rattle.layout.specs.Laws.Records.{packs, AllFit, length-pack, unpack-pack, unpacks-packs}

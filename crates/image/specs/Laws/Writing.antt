@@ -14,7 +14,7 @@ use Rattle.model.specs.declared.Answer.TheVariants.{Done, BadTable, ShortRoom}
 use Rattle.model.specs.Table.{room, Sized, no_port, no_copies, port_at, copies_at, size_good}
 use Rattle.model.specs.Good.{good, bad_in}
 use Rattle.model.specs.Parts.Rules.{ports_of}
-use Rattle.model.specs.Laws.Rules.{shared-rules}
+use Rattle.model.proofs.Laws.Rules.{shared-rules}
 use Rattle.model.specs.Bytes.{sum, pack}
 use Rattle.model.specs.Layout.{shared_widths, port_widths, copied_widths, copies_widths, head_widths, shared_values, port_values, copied_values, copies_values, head_values, port_place, copies_place, size}
 use Rattle.layout.specs.Laws.Records.{packs, length-pack}

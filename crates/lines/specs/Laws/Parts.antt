@@ -6,7 +6,7 @@ use mathlib.Core.List.{List, [], ◌∷◌, ◌++◌, foldr, drop_last, get_last
 use Rattle.std.proofs.Common.{arith}
 use borrow.Author.Tests.{ne_eqb, eqb-true, lt-ltb, le-ltb, ltb-true, ltb-false, leb-true, le-leb, lt-leb}
 use Rattle.model.specs.Table.{size_good}
-use Rattle.model.specs.Laws.Tests.{split}
+use Rattle.model.proofs.Laws.Tests.{split}
 use Rattle.lines.specs.declared.Part.{Part}
 use Rattle.lines.specs.declared.Part.TheVariants.{Nothing, Letter, Space, Number}
 use Rattle.lines.specs.declared.Stage.{Stage}

@@ -12,7 +12,7 @@ use Rattle.model.specs.Parts.Charges.{touch_at, home}
 use Rattle.model.specs.Parts.Steps.{touch_of}
 use Rattle.model.specs.Parts.Rules.{slot_of}
 use Rattle.model.specs.Paid.{paid_event}
-use Rattle.model.specs.Laws.Paid.{paid-sized, paid-cost}
+use Rattle.model.proofs.Laws.Paid.{paid-sized, paid-cost}
 use Rattle.rules.specs.Check.{slot-own}
 use Rattle.lock.specs.declared.orders.Acted.{Acted}
 use Rattle.lock.specs.Sight.{set_at}

@@ -10,10 +10,10 @@ use Rattle.model.specs.Good.{good}
 use Rattle.model.specs.Event.{fresh}
 use Rattle.model.specs.Run.{order}
 use Rattle.model.specs.Paid.{paid_event}
-use Rattle.model.specs.Laws.Tests.{split}
-use Rattle.model.specs.Laws.After.{after-sized}
-use Rattle.model.specs.Laws.Kept.{good-after, made-good, made-sized}
-use Rattle.model.specs.Laws.Paid.{paid-event}
+use Rattle.model.proofs.Laws.Tests.{split}
+use Rattle.model.proofs.Laws.After.{after-sized}
+use Rattle.model.proofs.Laws.Kept.{good-after, made-good, made-sized}
+use Rattle.model.proofs.Laws.Paid.{paid-event}
 use Rattle.lines.specs.declared.Part.{Part}
 use Rattle.lines.specs.declared.Stage.{Stage}
 use Rattle.lines.specs.declared.Stage.TheVariants.{Opening, Running, Over}

@@ -6,9 +6,9 @@ use Rattle.std.proofs.Math.Nat.{sub-zero}
 use Rattle.std.proofs.lemmas.List.Edits.{sets}
 use Rattle.std.proofs.Math.Seq.{length-sets}
 use Rattle.model.specs.Table.{Sized}
-use Rattle.model.specs.Laws.Tests.{split}
-use Rattle.model.specs.Laws.Kept.{made-sized}
-use Rattle.model.specs.Laws.Paid.{paid-sized}
+use Rattle.model.proofs.Laws.Tests.{split}
+use Rattle.model.proofs.Laws.Kept.{made-sized}
+use Rattle.model.proofs.Laws.Paid.{paid-sized}
 use Rattle.listing.specs.declared.Run.{Run}
 use Rattle.lines.specs.declared.Act.{Act}
 use Rattle.lines.specs.declared.Act.TheVariants.{Keep, Open, Order, Bad}

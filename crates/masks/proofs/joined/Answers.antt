@@ -1,6 +1,6 @@
 use Rattle.std.proofs.Common.{◌%◌}
 use Rattle.model.specs.Mask.{alone}
-use Rattle.model.specs.Laws.Mask.{or-joined}
+use Rattle.model.proofs.Laws.Mask.{or-joined}
 use Rattle.masks.proofs.joined.Goals as goal
 
 pub returns : goal.returns

@@ -1,7 +1,7 @@
 -- `masks::stands` meets its contract: no bit stands past the width.
 use Rattle.std.proofs.Common.{sym, refl}
 use Rattle.model.specs.Mask.{stands}
-use Rattle.model.specs.Laws.Mask.{beyond}
+use Rattle.model.proofs.Laws.Mask.{beyond}
 use Rattle.masks.proofs.stands.Goals as goal
 
 pub returns-then-k-lt64 : goal.returns-then-k-lt64

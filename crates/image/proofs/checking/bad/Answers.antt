@@ -5,7 +5,7 @@ use native.Mathlib.Nat.{pos_of_ne-zero}
 use borrow.Author.Tests.{eq-eqb, ne_eqb}
 use Rattle.model.specs.Table.{room}
 use Rattle.model.specs.Event.{fault_in}
-use Rattle.model.specs.Laws.Faults.{place-good}
+use Rattle.model.proofs.Laws.Faults.{place-good}
 use Rattle.records.specs.Laws.Head.{ports-fit}
 use Rattle.image.specs.Laws.Checking.{reads_none, reads-bad, reads-good}
 use Rattle.image.proofs.checking.bad.Goals as goal

@@ -11,7 +11,7 @@ use Rattle.model.specs.declared.Table.{Table}
 use Rattle.model.specs.declared.Answer.TheVariants.{Done, BadTable}
 use Rattle.model.specs.Table.{room, Sized}
 use Rattle.model.specs.Good.{good, bad_in}
-use Rattle.model.specs.Laws.Faults.{place-good}
+use Rattle.model.proofs.Laws.Faults.{place-good}
 use Rattle.model.specs.Parts.Rules.{ports_of}
 use Rattle.rules.specs.Check.{rest-starts, rest-turn, bad_below, check-starts, port-passes, port-fails, check-ends}
 use Rattle.model.specs.Layout.{size}

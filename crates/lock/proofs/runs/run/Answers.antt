@@ -11,7 +11,7 @@ use Rattle.model.specs.Good.{good}
 use Rattle.model.specs.Parts.Charges.{home}
 use Rattle.model.specs.Parts.Steps.{touch_of}
 use Rattle.model.specs.Parts.Rules.{slot_of}
-use Rattle.model.specs.Laws.Faults.{place-good}
+use Rattle.model.proofs.Laws.Faults.{place-good}
 use Rattle.rules.specs.Check.{rest-starts, rest-turn, check-starts, port-passes, port-fails, check-ends}
 use Rattle.lock.specs.Parts.{acted_on}
 use Rattle.lock.specs.Turns.{some-order, begins, turn-refused, turn-done, run_ends}

@@ -5,7 +5,7 @@ use borrow.Author.Tests.{eq-eqb, ne_eqb, eqb-false}
 use Rattle.model.specs.Points.{two, three, four, tens}
 use Rattle.model.specs.Step.{unasked}
 use Rattle.model.specs.Parts.Moves.{step}
-use Rattle.model.specs.Laws.Ring.{next-below}
+use Rattle.model.proofs.Laws.Ring.{next-below}
 use Rattle.lock.specs.Sight.{ringed}
 use Rattle.lock.proofs.steps.asked.Goals as goal
 

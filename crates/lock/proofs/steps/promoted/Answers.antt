@@ -6,7 +6,7 @@ use lib.Dec.{eqb}
 use mir.Syntax.{w8}
 use mir.Val.{Fits}
 use Rattle.model.specs.Parts.Moves.{step}
-use Rattle.model.specs.Laws.Tests.{split}
+use Rattle.model.proofs.Laws.Tests.{split}
 use Rattle.lock.specs.Match.{outside, promotion-rest}
 use Rattle.lock.proofs.steps.promoted.Goals as goal
 

@@ -5,7 +5,7 @@ use Rattle.model.specs.Table.{room, size_good}
 use Rattle.model.specs.Bytes.{sum}
 use Rattle.model.specs.Layout.{head_widths, shared_widths, port_widths, copied_widths, port_place}
 use Rattle.model.specs.Good.{fault, shared_rules}
-use Rattle.model.specs.Laws.Faults.{whole-first}
+use Rattle.model.proofs.Laws.Faults.{whole-first}
 use Rattle.rules.specs.Check.{size-good-fits}
 use Rattle.rules.specs.Faults.{lowered, first, second, sound-start}
 use Rattle.rules.proofs.faults.shared_fault.Goals as goal
