@@ -1,3 +1,4 @@
+use Rattle.std.proofs.Common.{rules}
 use mathlib.Core.Path.{◌≡◌, refl, sym, ap, ◌∙◌}
 use mathlib.Core.Bool.{true, false, ◌&&◌, and-eq-true_iff}
 use native.Mathlib.Omega.{arith}
@@ -47,7 +48,7 @@ returns c =
     c.shared_field-3.ensures)
     c.lower-e.ensures
     c.spin_good.ensures
-    c.port_field.ensures)
+    (search rules))
     c.lower-g.ensures
     c.within-2.ensures
     (c.copied_field.ensures ∙ ap (fault 4 a.s.d) (first a.s.d (port_place a.s.d))))
