@@ -1,4 +1,3 @@
--- What a reader believes of images, over the layout: what is written and read. The statements say what follows; `Laws` proves it.
+-- What a reader believes of images, over the layout: what is written and read. `Statements` of proofs/ say what follows; `Laws` there proves it.
 pub mod Image
-pub mod Laws
-pub mod Statements
+pub mod Parts

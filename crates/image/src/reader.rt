@@ -3,7 +3,7 @@ ghost use Rattle.std.specs.Prelude.{◌≡◌, ◌<◌};
 ghost use Rattle.model.specs.Table.{no_port, no_copies};
 ghost use Rattle.records.specs.Records.{ports_in};
 ghost use Rattle.image.specs.Image as Image;
-ghost use Rattle.image.specs.Laws.Reading.{accepted_in, answer_of, table_in, made_in};
+ghost use Rattle.image.specs.Parts.{accepted_in, answer_of, table_in, made_in};
 
 use crate::checking;
 use model::{Answer, Copies, Made, Port, ROOM, Shared, Table, Word, Work};

@@ -3,7 +3,7 @@ ghost use Rattle.std.specs.Prelude.{◌≡◌, ◌-◌, ◌≤◌, length};
 ghost use Rattle.std.proofs.lemmas.List.Edits.{sets};
 ghost use Rattle.model.specs.Table.{fresh_table};
 ghost use Rattle.image.specs.Image as Image;
-ghost use Rattle.image.specs.Laws.Blank.{zeros};
+ghost use Rattle.image.specs.Parts.{zeros};
 
 use crate::Written;
 use model::{Answer, Fault, ROOM, Table};

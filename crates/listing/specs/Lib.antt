@@ -1,8 +1,5 @@
 -- What a reader believes of the listing of a whole input (its lines are defined in the crate `lines`, what is printed in `text`). Then how a run takes an
--- input in pieces, and the statements that tie the two together.
+-- input in pieces; `Statements` of proofs/ tie the two together.
 pub mod Listing
 pub mod Feed
 pub mod Chain
-pub mod Laws
-pub mod Statements
-pub mod Samples

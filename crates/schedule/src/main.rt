@@ -3,7 +3,7 @@
 #![tactic(auto)]
 
 ghost use Rattle.std.specs.Prelude.{◌≡◌, true, ◌≤◌, ◌<◌, length, drop};
-ghost use Rattle.listing.specs.Laws.Took.{took};
+ghost use Rattle.listing.proofs.Laws.Took.{took};
 
 use lines::reading;
 use listing::{Run, runs};

@@ -32,7 +32,7 @@ use Rattle.layout.specs.Places.{set_place}
 use Rattle.records.specs.Records.{there, put_at, ports_in}
 use Rattle.records.specs.Laws.There.{there-inside, there-outside}
 use Rattle.image.specs.Image.{encode, held}
-use Rattle.image.specs.Laws.Held.{copies-below, d-held, held_fits, held-long, held-sized, held-encoded, port-held, active-held, word_held}
+use Rattle.image.proofs.Laws.Held.{copies-below, d-held, held_fits, held-long, held-sized, held-encoded, port-held, active-held, word_held}
 use Rattle.cabi.specs.Laws.Fields.{is_word}
 use Rattle.cabi.specs.Laws.Puts.{sets_put, move_put}
 use Rattle.cabi.specs.Laws.Putting.{set-inside, set-wide, put-own, put_step}

@@ -24,10 +24,10 @@ use Rattle.model.specs.Layout.{d_in}
 use Rattle.records.specs.Records.{ports_in}
 use Rattle.records.specs.Laws.Head.{image-tests}
 use Rattle.image.specs.Image.{held, encode, decode, room_after}
-use Rattle.image.specs.Laws.Held.{d-held, held-long, held-sized, held-encoded}
-use Rattle.image.specs.Laws.Reading.{d-byte, accepted-image}
-use Rattle.image.specs.Laws.Encoded.{encode-bytes}
-use Rattle.image.specs.Laws.RoundTrip.{d-back, image-back, held_back, decode-encode}
+use Rattle.image.proofs.Laws.Held.{d-held, held-long, held-sized, held-encoded}
+use Rattle.image.proofs.Laws.Reading.{d-byte, accepted-image}
+use Rattle.image.proofs.Laws.Encoded.{encode-bytes}
+use Rattle.image.proofs.Laws.RoundTrip.{d-back, image-back, held_back, decode-encode}
 use Rattle.cabi.specs.Calls.{check_call, event_on, event_call, event_image, into_on, into_call, into_next, calls, calls_image}
 use Rattle.cabi.specs.Laws.Stepping.{event-done}
 use Rattle.cabi.specs.Laws.Acting.{Holds, refused-made}

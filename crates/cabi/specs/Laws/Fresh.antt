@@ -9,7 +9,7 @@ use Rattle.model.specs.Event.{number_of, fresh}
 use Rattle.rules.specs.Check.{size-good-fits}
 use Rattle.model.specs.Layout.{size}
 use Rattle.image.specs.declared.Written.{Written}
-use Rattle.image.specs.Laws.Encoded.{size-narrow, size-wide}
+use Rattle.image.proofs.Laws.Encoded.{size-narrow, size-wide}
 use Rattle.image.specs.Image.{write_answer, written, room_after}
 use Rattle.cabi.specs.Calls.{fresh_answer, fresh_call, fresh_room}
 

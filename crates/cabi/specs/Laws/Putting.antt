@@ -30,7 +30,7 @@ use Rattle.layout.specs.Laws.Inside.{start-inside, port-inside, copied-inside, c
 use Rattle.records.specs.Records.{put_at}
 use Rattle.records.specs.Laws.There.{put-inside, put-outside}
 use Rattle.image.specs.Image.{encode}
-use Rattle.image.specs.Laws.Encoded.{length-encode}
+use Rattle.image.proofs.Laws.Encoded.{length-encode}
 use Rattle.cabi.specs.Laws.Fields.{is_word, set_in, port-put, value-put, active-put, word-put, set-put}
 use Rattle.cabi.specs.Laws.Puts.{set_put, front_put, sets_put, move_put}
 use Rattle.cabi.specs.Laws.Stepping.{front_after}

@@ -28,10 +28,10 @@ use Rattle.layout.specs.Laws.Inside.{port-inside, copied-inside}
 use Rattle.records.specs.Laws.Rows.{value-one}
 use Rattle.image.specs.Image.{encode, decode, write_answer, written, room_after}
 use Rattle.image.specs.declared.Written.{Written}
-use Rattle.image.specs.Laws.Promises.{write_done}
-use Rattle.image.specs.Laws.Encoded.{length-encode}
-use Rattle.image.specs.Laws.Held.{port-below}
-use Rattle.image.specs.Laws.RoundTrip.{held_back, decode-encode}
+use Rattle.image.proofs.Laws.Promises.{write_done}
+use Rattle.image.proofs.Laws.Encoded.{length-encode}
+use Rattle.image.proofs.Laws.Held.{port-below}
+use Rattle.image.proofs.Laws.RoundTrip.{held_back, decode-encode}
 use Rattle.cabi.specs.Calls.{fresh_call, fresh_room, check_call, calls_image}
 use Rattle.cabi.specs.Laws.Calling.{calls-run}
 use Rattle.cabi.specs.Laws.Fresh.{fresh-written}

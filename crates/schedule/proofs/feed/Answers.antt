@@ -1,5 +1,5 @@
 use Rattle.std.proofs.Common.{arith}
-use Rattle.listing.specs.Laws.Took.{fed-rest}
+use Rattle.listing.proofs.Laws.Took.{fed-rest}
 use Rattle.schedule.proofs.feed.Goals as goal
 
 pub returns-clause-piece_value : goal.returns-clause-piece_value

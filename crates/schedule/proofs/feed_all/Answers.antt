@@ -1,6 +1,6 @@
 use Rattle.std.proofs.Common.{◌<◌, length, drop, arith, sym, ap, ◌∙◌, length-drop, drop_of_length-le}
 use Rattle.std.proofs.lemmas.List.{take_rest}
-use Rattle.listing.specs.Laws.Took.{took}
+use Rattle.listing.proofs.Laws.Took.{took}
 use Rattle.schedule.proofs.feed_all.Goals as goal
 
 -- the piece that was handed on is all that is left, and it isn't empty

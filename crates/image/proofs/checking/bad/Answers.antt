@@ -7,7 +7,7 @@ use Rattle.model.specs.Table.{room}
 use Rattle.model.specs.Event.{fault_in}
 use Rattle.model.proofs.Laws.Faults.{place-good}
 use Rattle.records.specs.Laws.Head.{ports-fit}
-use Rattle.image.specs.Laws.Checking.{reads_none, reads-bad, reads-good}
+use Rattle.image.proofs.Laws.Checking.{reads_none, reads-bad, reads-good}
 use Rattle.image.proofs.checking.bad.Goals as goal
 
 pub returns-then-d-eq0 : goal.returns-then-d-eq0

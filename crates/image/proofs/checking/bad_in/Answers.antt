@@ -7,8 +7,8 @@ use native.Mathlib.Omega.{arith}
 use Rattle.model.specs.Good.{shared_rules, rules, nowhere, lower, bad_in}
 use Rattle.rules.specs.Check.{bad_below, bad-turn}
 use Rattle.image.specs.Image.{held}
-use Rattle.image.specs.Laws.Held.{d-held, shared-held}
-use Rattle.image.specs.Laws.Checking.{shared-bad}
+use Rattle.image.proofs.Laws.Held.{d-held, shared-held}
+use Rattle.image.proofs.Laws.Checking.{shared-bad}
 use Rattle.image.proofs.checking.bad_in.Goals as goal
 
 pub loop-k-init : goal.loop-k-init

@@ -4,7 +4,7 @@ use native.Mathlib.Nat.{pos_of_ne-zero}
 use Rattle.model.specs.Table.{room}
 use Rattle.model.specs.Event.{number_of}
 use Rattle.records.specs.Laws.Head.{ports-fit}
-use Rattle.image.specs.Laws.Checking.{reads_none, reads-bad, reads-good}
+use Rattle.image.proofs.Laws.Checking.{reads_none, reads-bad, reads-good}
 use Rattle.image.proofs.checking.number.Goals as goal
 
 pub returns-then-d-eq0 : goal.returns-then-d-eq0

@@ -1,8 +1,8 @@
 use mathlib.Core.Path.{◌∙◌}
 use native.Mathlib.Omega.{arith}
 use Prim.Native.Nat.{◌<◌}
-use Rattle.image.specs.Laws.Held.{port-held, copies-held}
-use Rattle.image.specs.Laws.Checking.{port-bad}
+use Rattle.image.proofs.Laws.Held.{port-held, copies-held}
+use Rattle.image.proofs.Laws.Checking.{port-bad}
 use Rattle.image.proofs.checking.port_bad.Goals as goal
 
 pub returns : goal.returns

@@ -12,8 +12,8 @@ use Rattle.points.specs.Places.{seen-table}
 use Rattle.model.specs.Layout.{port_widths, copies_widths, port_of, copies_of, port_place, copies_place}
 use Rattle.records.specs.Records.{there, ports_in}
 use Rattle.image.specs.Image.{held}
-use Rattle.image.specs.Laws.Held.{port-held, copies-held}
-use Rattle.image.specs.Laws.Checking.{made_at, port-sound}
+use Rattle.image.proofs.Laws.Held.{port-held, copies-held}
+use Rattle.image.proofs.Laws.Checking.{made_at, port-sound}
 use Rattle.image.proofs.checking.port_sound.Goals as goal
 
 -- what is to be shown, by the port's record as it was read

@@ -6,8 +6,8 @@ use native.Mathlib.Omega.{arith}
 use Rattle.model.specs.Good.{every_below}
 use Rattle.model.specs.Parts.Good.{shared_good, place_good}
 use Rattle.image.specs.Image.{held}
-use Rattle.image.specs.Laws.Held.{held_fits, shared-held}
-use Rattle.image.specs.Laws.Checking.{shared-sound, turn, good-held}
+use Rattle.image.proofs.Laws.Held.{held_fits, shared-held}
+use Rattle.image.proofs.Laws.Checking.{shared-sound, turn, good-held}
 use Rattle.image.proofs.checking.sound.Goals as goal
 
 pub loop-k-init : goal.loop-k-init

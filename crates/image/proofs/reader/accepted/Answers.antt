@@ -1,6 +1,6 @@
 use mathlib.Core.Path.{◌∙◌}
 use borrow.Author.Tests.{eq-eqb, ne_eqb}
-use Rattle.image.specs.Laws.Reading.{accepted_in}
+use Rattle.image.specs.Parts.{accepted_in}
 use Rattle.image.proofs.reader.accepted.Goals as goal
 
 pub returns-then-number-eq0 : goal.returns-then-number-eq0

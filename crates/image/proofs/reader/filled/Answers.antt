@@ -6,8 +6,8 @@ use native.Mathlib.Omega.{arith}
 use Rattle.model.specs.declared.Table.{Table}
 use Rattle.model.specs.Table.{room}
 use Rattle.records.specs.Records.{ports_in}
-use Rattle.image.specs.Laws.Held.{held_fits, port-held, copies-held}
-use Rattle.image.specs.Laws.Reading.{read-start, read-turn, read-end}
+use Rattle.image.proofs.Laws.Held.{held_fits, port-held, copies-held}
+use Rattle.image.proofs.Laws.Reading.{read-start, read-turn, read-end}
 use Rattle.image.proofs.reader.filled.Goals as goal
 
 -- where there is a port to read, D is that of the image, and at most the room

@@ -1,5 +1,5 @@
 use Prim.Native.Nat.{◌-◌}
-use Rattle.image.specs.Laws.Reading.{Reading}
+use Rattle.image.proofs.Laws.Reading.{Reading}
 use Rattle.image.proofs.reader.filled.Given as goal
 
 abbrev pub invariant-loop-i : goal.invariant-loop-i

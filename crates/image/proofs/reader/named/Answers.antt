@@ -1,6 +1,6 @@
 use borrow.Author.Rules.{rules}
 use borrow.Author.Tests.{ne_eqb}
-use Rattle.image.specs.Laws.Reading.{answer_of}
+use Rattle.image.specs.Parts.{answer_of}
 use Rattle.image.proofs.reader.named.Goals as goal
 
 pub returns-in-0 : goal.returns-in-0

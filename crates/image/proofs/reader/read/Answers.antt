@@ -1,6 +1,6 @@
 -- The check's number says whether there is a table to fill.
 use mathlib.Core.Path.{◌∙◌}
-use Rattle.image.specs.Laws.Reading.{accepted-ports, read-ends}
+use Rattle.image.proofs.Laws.Reading.{accepted-ports, read-ends}
 use Rattle.image.proofs.reader.read.Goals as goal
 
 pub filled-requires : goal.filled-requires

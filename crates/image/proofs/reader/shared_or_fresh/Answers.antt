@@ -2,8 +2,8 @@ use mathlib.Core.Path.{◌∙◌}
 use native.Mathlib.Nat.{pos_of_ne-zero}
 use borrow.Author.Tests.{eq-eqb, ne_eqb}
 use Rattle.model.specs.Table.{fresh_table}
-use Rattle.image.specs.Laws.Held.{shared-held}
-use Rattle.image.specs.Laws.Reading.{table_in}
+use Rattle.image.proofs.Laws.Held.{shared-held}
+use Rattle.image.specs.Parts.{table_in}
 use Rattle.image.proofs.reader.shared_or_fresh.Goals as goal
 
 pub returns-then-d-eq0 : goal.returns-then-d-eq0

@@ -11,8 +11,9 @@ use Rattle.model.specs.Bytes.{sum}
 use Rattle.model.specs.Layout.{head_widths, size}
 use Rattle.layout.specs.Laws.Inside.{start-inside, copied-inside}
 use Rattle.image.specs.Image.{written, room_after}
-use Rattle.image.specs.Laws.Writing.{answer-bad, answer-short, answer-done}
-use Rattle.image.specs.Laws.Blank.{zeros, head-long, blank-put, fresh-good, fresh-bad}
+use Rattle.image.proofs.Laws.Writing.{answer-bad, answer-short, answer-done}
+use Rattle.image.specs.Parts.{zeros}
+use Rattle.image.proofs.Laws.Blank.{head-long, blank-put, fresh-good, fresh-bad}
 use Rattle.image.proofs.writer.blank.Goals as goal
 
 -- D is in range

@@ -3,7 +3,7 @@ use mathlib.Core.Path.{◌≡◌, refl, ◌∙◌}
 use Prim.Native.Nat.{◌-◌}
 use native.Mathlib.Omega.{arith}
 use lib.ListN.{length-set}
-use Rattle.image.specs.Laws.Blank.{fill-turn}
+use Rattle.image.proofs.Laws.Blank.{fill-turn}
 use Rattle.image.proofs.writer.fill.Goals as goal
 
 pub loop-i-init : goal.loop-i-init

@@ -2,7 +2,7 @@ use mathlib.Core.Path.{◌≡◌}
 use Prim.Native.Nat.{◌-◌, ◌≤◌}
 use lib.ListN.{length}
 use lib.Seq.{sets}
-use Rattle.image.specs.Laws.Blank.{zeros}
+use Rattle.image.specs.Parts.{zeros}
 use Rattle.image.proofs.writer.fill.Given as goal
 
 abbrev pub invariant-loop-i : goal.invariant-loop-i

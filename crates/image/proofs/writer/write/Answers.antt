@@ -16,7 +16,7 @@ use Rattle.model.specs.Parts.Rules.{ports_of}
 use Rattle.rules.specs.Check.{rest-starts, rest-turn, bad_below, check-starts, port-passes, port-fails, check-ends}
 use Rattle.model.specs.Layout.{size}
 use Rattle.image.specs.Image.{written, room_after}
-use Rattle.image.specs.Laws.Writing.{start-written, port-written, copied-written, copies-written, all-written, all-ports, answer-bad, answer-short, answer-done}
+use Rattle.image.proofs.Laws.Writing.{start-written, port-written, copied-written, copies-written, all-written, all-ports, answer-bad, answer-short, answer-done}
 use Rattle.image.proofs.writer.write.Goals as goal
 use Rattle.image.proofs.writer.write.Goals.{then-not-port_good, else-not-port_good}
 

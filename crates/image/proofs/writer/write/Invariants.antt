@@ -3,7 +3,7 @@ use mathlib.Core.List.{List}
 use Prim.Native.Nat.{ℕ, ◌-◌, ◌≤◌}
 use Rattle.model.specs.Table.{room}
 use Rattle.rules.specs.Check.{EmptyTo, bad_below}
-use Rattle.image.specs.Laws.Writing.{PortsFrom, CopiesFrom}
+use Rattle.image.proofs.Laws.Writing.{PortsFrom, CopiesFrom}
 use Rattle.image.proofs.writer.write.Given as goal
 
 abbrev pub invariant-loop-e : goal.invariant-loop-e

@@ -13,8 +13,8 @@ use Rattle.listing.specs.Feed.{run_at, acted}
 use Rattle.text.specs.Text.{longest}
 use Rattle.text.specs.Laws.Put.{Put}
 use Rattle.text.specs.Laws.Room.{whole-line}
-use Rattle.listing.specs.Laws.Ordering.{on-records, table-after, line-printed}
-use Rattle.listing.specs.Laws.Taking.{Taking, put-nothing, going, begins, turns, ends}
+use Rattle.listing.proofs.Laws.Ordering.{on-records, table-after, line-printed}
+use Rattle.listing.proofs.Laws.Taking.{Taking, put-nothing, going, begins, turns, ends}
 use Rattle.listing.proofs.runs.feed.Goals as goal
 
 -- a turn that does what the definitions say: its line goes where there is room for the longest

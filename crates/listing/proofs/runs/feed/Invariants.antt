@@ -1,5 +1,5 @@
 use Rattle.std.proofs.Common.{◌-◌, length}
-use Rattle.listing.specs.Laws.Taking.{Taking}
+use Rattle.listing.proofs.Laws.Taking.{Taking}
 use Rattle.listing.proofs.runs.feed.Given as goal
 
 abbrev pub invariant-loop-taken : goal.invariant-loop-taken

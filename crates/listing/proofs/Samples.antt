@@ -4,7 +4,7 @@ use Prim.Native.Char.{code}
 use Prim.Native.String.{String, len, char_at}
 use Rattle.model.proofs.Laws.Compute.{everything}
 use Rattle.listing.specs.Listing.{listing}
-use Rattle.listing.specs.Laws.Compute.{whole}
+use Rattle.listing.proofs.Laws.Compute.{whole}
 
 -- the bytes of a text of plain characters
 abbrev bytes_from : ℕ → ℕ → String → List ℕ

@@ -16,7 +16,7 @@ use Rattle.listing.specs.Chain.{Prints, finished, over, fed}
 use Rattle.lines.specs.Laws.Lines.{Clear}
 use Rattle.lines.specs.Laws.Told.{shown, bytes_of, Fair}
 use Rattle.lines.specs.Laws.Parts.{fair-clear, unended, unfit}
-use Rattle.listing.specs.Laws.Pieces.{rest, rest_by, First, sure-fresh, Ready, passes}
+use Rattle.listing.proofs.Laws.Pieces.{rest, rest_by, First, sure-fresh, Ready, passes}
 
 -- bytes without a newline are one line
 one_line : (x : ℕ) (xs : List ℕ) → Clear (x ∷ xs) → lines (x ∷ xs) ≡ (x ∷ xs) ∷ []

@@ -7,7 +7,7 @@ use Rattle.text.specs.Text.{longest}
 use Rattle.listing.specs.declared.Run.{Run}
 use Rattle.listing.specs.declared.Fed.{Fed}
 use Rattle.listing.specs.Feed.{acted, feeding}
-use Rattle.listing.specs.Laws.Taking.{takes}
+use Rattle.listing.proofs.Laws.Taking.{takes}
 
 -- a run at its end takes no more
 unfoldable pub took : Run → List ℕ → Run

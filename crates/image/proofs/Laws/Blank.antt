@@ -19,9 +19,7 @@ use Rattle.records.specs.Records.{put_at}
 use Rattle.records.specs.Laws.Rows.{sets-append}
 use Rattle.records.specs.Laws.There.{put-inside}
 use Rattle.image.specs.Image.{encode}
-
-abbrev pub zeros : ℕ → List ℕ
-zeros n = replicate n 0
+use Rattle.image.specs.Parts.{zeros}
 
 zeros-append : (a b : ℕ) → zeros a ++ zeros b ≡ zeros (a + b)
 zeros-append zero b = let e : 0 + b ≡ b = omega arith in rw e

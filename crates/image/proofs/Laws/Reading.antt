@@ -23,22 +23,9 @@ use Rattle.model.specs.Layout.{head_widths, d_in, is_image}
 use Rattle.records.specs.Records.{ports_in}
 use Rattle.records.specs.Laws.Head.{image-tests}
 use Rattle.image.specs.Image.{held, decode}
-use Rattle.image.specs.Laws.Held.{port-above, copies-above, held_fits, held-sized}
-use Rattle.image.specs.Laws.Whole.{refill, tables}
-
--- D of an image that is accepted, else 0; the answer by the number
-unfoldable pub accepted_in : ℕ → List ℕ → ℕ
-accepted_in number bs = cond (eqb number 0) (get_or bs 1 0) 0
-
-unfoldable pub answer_of : ℕ → List ℕ → Answer
-answer_of number bs = cond (eqb number 0) Done (cond (eqb number 1) (BadTable (fault_in (decode bs).answer)) BadImage)
-
--- the table of the image of d ports; at d = 0, the fresh table of D = 1
-unfoldable pub table_in : ℕ → List ℕ → Table
-table_in d bs = cond (eqb d 0) (fresh_table 1) (held d bs)
-
-abbrev pub made_in : Answer → ℕ → List ℕ → Made
-made_in a d bs = record { table = table_in d bs; answer = a }
+use Rattle.image.specs.Parts.{accepted_in, answer_of, table_in, made_in}
+use Rattle.image.proofs.Laws.Held.{port-above, copies-above, held_fits, held-sized}
+use Rattle.image.proofs.Laws.Whole.{refill, tables}
 
 -- the first i of a list as long as the room, and z in the place of the others: one more of them
 abbrev pub filled : {A : Type 0} → A → List A → ℕ → List A

@@ -23,7 +23,7 @@ use Rattle.model.specs.Layout.{port_widths, port_values, copies_values, port_of,
 use Rattle.records.specs.Records.{there, ports_in}
 use Rattle.records.specs.Laws.Head.{image-tests}
 use Rattle.image.specs.Image.{held, decode}
-use Rattle.image.specs.Laws.Held.{port-above, copies-above, d-held, is-image, held_fits, port-held}
+use Rattle.image.proofs.Laws.Held.{port-above, copies-above, d-held, is-image, held_fits, port-held}
 
 module _ (d : ℕ) (bs : List ℕ) where
   -- places at or above d are good

@@ -14,7 +14,7 @@ use Rattle.records.specs.Records.{there, ports_in}
 use Rattle.records.specs.Laws.Head.{image-tests}
 use Rattle.records.specs.Laws.There.{there-inside}
 use Rattle.image.specs.Image.{encode, held}
-use Rattle.image.specs.Laws.Again.{encode-held}
+use Rattle.image.proofs.Laws.Again.{encode-held}
 
 -- port k's records, from the first port's on
 port-there : (k : ℕ) (bs : List ℕ) → drop (port_place k) bs ≡ drop (k * sum port_widths) (drop (port_place 0) bs)

@@ -22,7 +22,7 @@ use Rattle.records.specs.Records.{put_at}
 use Rattle.records.specs.Laws.Rows.{sets-append}
 use Rattle.records.specs.Laws.There.{put-inside}
 use Rattle.image.specs.Image.{encode, write_answer}
-use Rattle.image.specs.Laws.Encoded.{length-encode}
+use Rattle.image.proofs.Laws.Encoded.{length-encode}
 
 -- of the bytes `all` to be written to the start of a room, `rest` is still to be written, from `at` on
 pub record Writing (out all now : List ℕ) (at : ℕ) (rest : List ℕ) : Type 0 where

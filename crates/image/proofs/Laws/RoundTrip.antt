@@ -19,10 +19,10 @@ use Rattle.model.specs.Layout.{shared_widths, port_widths, copied_widths, copies
 use Rattle.layout.specs.Laws.Records.{packs, AllFit, length-pack, unpack-pack, unpacks-packs}
 use Rattle.records.specs.Laws.Rows.{same}
 use Rattle.image.specs.Image.{encode, held, decode}
-use Rattle.image.specs.Laws.Whole.{tables, refill}
-use Rattle.image.specs.Laws.Encoded.{length-encode, rows_long}
-use Rattle.image.specs.Laws.Fits.{head-fits, shared-fits, copied-fits, port-fits, copies-fits, all_fit}
-use Rattle.image.specs.Laws.Empty.{empty-above}
+use Rattle.image.proofs.Laws.Whole.{tables, refill}
+use Rattle.image.proofs.Laws.Encoded.{length-encode, rows_long}
+use Rattle.image.proofs.Laws.Fits.{head-fits, shared-fits, copied-fits, port-fits, copies-fits, all_fit}
+use Rattle.image.proofs.Laws.Empty.{empty-above}
 
 -- a list is the same as itself
 same_refl : (l : List ℕ) → same l l ≡ true

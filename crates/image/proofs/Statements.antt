@@ -13,9 +13,9 @@ use Rattle.model.proofs.Statements.{one}
 use Rattle.model.specs.Bytes.{Bytes}
 use Rattle.image.specs.declared.Written.{Written}
 use Rattle.image.specs.Image.{encode, decode, write_answer, written, room_after}
-use Rattle.image.specs.Laws.Encoded.{length-encode, size-narrow, size-wide, encode-bytes}
-use Rattle.image.specs.Laws.RoundTrip.{decode-encode}
-use Rattle.image.specs.Laws.Promises.{write_done, accepted-good, accepted-sized, accepted-encoded}
+use Rattle.image.proofs.Laws.Encoded.{length-encode, size-narrow, size-wide, encode-bytes}
+use Rattle.image.proofs.Laws.RoundTrip.{decode-encode}
+use Rattle.image.proofs.Laws.Promises.{write_done, accepted-good, accepted-sized, accepted-encoded}
 
 -- 1. A good table of any D, written and read, is the same table: of the definitions, and of the functions by their promises
 pub table_kept : (t : Table) → Sized t → good t ≡ true → decode (encode t) ≡ record { table = t; answer = Done }

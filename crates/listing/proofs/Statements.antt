@@ -13,8 +13,8 @@ use Rattle.listing.specs.Listing.{listed, listing}
 use Rattle.lines.specs.Reading.{live}
 use Rattle.listing.specs.Feed.{feeding, starting, ended}
 use Rattle.listing.specs.Chain.{Prints}
-use Rattle.listing.specs.Laws.Taking.{takes, writes}
-use Rattle.listing.specs.Laws.End.{from_start, by_bytes, listing-printed}
+use Rattle.listing.proofs.Laws.Taking.{takes, writes}
+use Rattle.listing.proofs.Laws.End.{from_start, by_bytes, listing-printed}
 
 -- Whatever the pieces in which an input arrives, and whatever the rooms that are lent for the text, a run from the start prints the input's listing.
 -- (The line number has 64 bits. An input of 2 ^ 64 bytes, for which it could be too small, takes longer than the machine lasts.)

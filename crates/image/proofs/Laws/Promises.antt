@@ -14,11 +14,11 @@ use Rattle.records.specs.Records.{ports_in}
 use Rattle.records.specs.Laws.Head.{image-tests}
 use Rattle.image.specs.declared.Written.{Written}
 use Rattle.image.specs.Image.{encode, held, decode, write_answer, written, room_after}
-use Rattle.image.specs.Laws.Again.{encode-held}
-use Rattle.image.specs.Laws.Held.{held-sized}
-use Rattle.image.specs.Laws.Encoded.{length-encode}
-use Rattle.image.specs.Laws.Reading.{accepted-image}
-use Rattle.image.specs.Laws.Writing.{answer-done}
+use Rattle.image.proofs.Laws.Again.{encode-held}
+use Rattle.image.proofs.Laws.Held.{held-sized}
+use Rattle.image.proofs.Laws.Encoded.{length-encode}
+use Rattle.image.proofs.Laws.Reading.{accepted-image}
+use Rattle.image.proofs.Laws.Writing.{answer-done}
 
 -- a good table, and room enough: what is given, and what stands in the room then
 pub write_done : (t : Table) (out next : List ℕ) (w : Written) → Sized t → good t ≡ true → length (encode t) ≤ length out
