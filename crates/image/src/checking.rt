@@ -4,7 +4,7 @@ ghost use mathlib.Core.List.{foldl};
 ghost use Rattle.model.specs.Good.{good, lower, bad_in};
 ghost use Rattle.model.specs.Parts.Good.{place_good};
 ghost use Rattle.model.specs.Event.{number_of, fault_in};
-ghost use Rattle.model.proofs.Laws.Listed.{rules_at};
+ghost use Rattle.model.specs.Parts.Listed.{rules_at};
 ghost use Rattle.model.specs.Layout as Layout;
 ghost use Rattle.records.specs.Records as Records;
 ghost use Rattle.records.specs.Records.{ports_in};

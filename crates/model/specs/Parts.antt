@@ -5,3 +5,4 @@ pub mod Charges
 pub mod Steps
 pub mod Good
 pub mod Rules
+pub mod Listed

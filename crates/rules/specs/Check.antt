@@ -17,7 +17,8 @@ use Rattle.model.specs.Good.{Rule, every_below, implies, place_empty, room_empty
 use Rattle.model.specs.Parts.Good.{fields_good, work_good, copies_good, shared_good, port_empty, port_good}
 use Rattle.model.specs.Parts.Rules.{own_tests, unseen_tests, seen_tests, port_tests, joined_port, ports_of, slot_of}
 use Rattle.model.proofs.Laws.Tests.{conjunct, below-every}
-use Rattle.model.proofs.Laws.Listed.{rules_at, start_rules, same_tests, empty-listed, port-listed}
+use Rattle.model.specs.Parts.Listed.{rules_at}
+use Rattle.model.proofs.Laws.Listed.{start_rules, same_tests, empty-listed, port-listed}
 use Rattle.model.proofs.Laws.Faults.{bad-append, none-bad, whole-first, bad-whole}
 
 -- numbers joined bit by bit are 0 where each of them is

@@ -3,7 +3,7 @@
 #![tactic(auto)]
 
 ghost use Rattle.std.specs.Prelude.{◌≡◌, true, ◌≤◌, ◌<◌, length, drop};
-ghost use Rattle.listing.proofs.Laws.Took.{took};
+ghost use Rattle.listing.specs.Took.{took};
 
 use lines::reading;
 use listing::{Run, runs};
@@ -54,8 +54,8 @@ fn write<R: Print + Eprint>(rt: &R, text: &[u8]) -> bool {
 // Feeds the run once, and writes what it printed. What is left of the piece is still to be taken; a run that takes nothing is at its end.
 fn feed<R: Print + Eprint>(rt: &R, run: Run, piece: &[u8]) -> Taken
     ensures taken_in_bounds { result.taken ≤ length piece.now }
-    ensures piece_value { took run piece.now ≡ took result.run (drop result.taken piece.now) }
-    ensures piece_value_2 { 0 < length piece.now → result.taken ≡ 0 → took run piece.now ≡ result.run }
+    ensures rest_to_take { took run piece.now ≡ took result.run (drop result.taken piece.now) }
+    ensures at_its_end { 0 < length piece.now → result.taken ≡ 0 → took run piece.now ≡ result.run }
 {
     let mut out = [0u8; PIECE];
     let fed = runs::feed(run, piece, &mut out);

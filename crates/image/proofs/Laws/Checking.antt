@@ -16,7 +16,8 @@ use Rattle.model.specs.Good.{Rule, every_below, place_empty, room_empty, shared_
 use Rattle.model.specs.Parts.Good.{shared_good, port_empty, place_good, all_good}
 use Rattle.model.specs.Parts.Rules.{port_tests}
 use Rattle.model.proofs.Laws.Tests.{below-every}
-use Rattle.model.proofs.Laws.Listed.{rules_at, good-all}
+use Rattle.model.specs.Parts.Listed.{rules_at}
+use Rattle.model.proofs.Laws.Listed.{good-all}
 use Rattle.model.proofs.Laws.Faults.{bad-append}
 use Rattle.rules.specs.Check.{port-whole, work-made, shared-made, bad_below, shared-any, port-any}
 use Rattle.model.specs.Layout.{port_widths, port_values, copies_values, port_of, port_place, d_in, is_image}

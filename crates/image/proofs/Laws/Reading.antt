@@ -12,12 +12,9 @@ use Rattle.model.specs.declared.Port.{Port}
 use Rattle.model.specs.declared.Copies.{Copies}
 use Rattle.model.specs.declared.Shared.{Shared}
 use Rattle.model.specs.declared.Table.{Table}
-use Rattle.model.specs.declared.Made.{Made}
-use Rattle.model.specs.declared.Answer.{Answer}
-use Rattle.model.specs.declared.Answer.TheVariants.{Done, BadTable, BadImage}
 use Rattle.model.specs.Table.{room, table, no_port, no_copies, port_at, copies_at, fresh_table}
 use Rattle.model.specs.Good.{good}
-use Rattle.model.specs.Event.{number_of, fault_in}
+use Rattle.model.specs.Event.{number_of}
 use Rattle.model.specs.Bytes.{value, unpack}
 use Rattle.model.specs.Layout.{head_widths, d_in, is_image}
 use Rattle.records.specs.Records.{ports_in}

@@ -1,5 +1,5 @@
--- The run that has taken every byte of a piece of input, in however many calls and whatever the rooms: what a program's loop promises.
-use Rattle.std.specs.Prelude.{◌≡◌, ℕ, ◌-◌, ◌<◌, ◌≤◌, Bool, true, false, cond, List, [], ◌∷◌, length, drop, nat_le, refl}
+-- A call leaves the rest of its piece to be taken, and one that takes nothing is at its end: from these a program's loop has its promise.
+use Rattle.std.specs.Prelude.{◌≡◌, ℕ, ◌-◌, ◌<◌, ◌≤◌, Bool, true, false, List, [], ◌∷◌, length, drop, nat_le, refl}
 use Rattle.std.proofs.Common.{sym, ◌∙◌, arith}
 use Rattle.std.proofs.Math.Bool.{and-false}
 use Rattle.lines.specs.Reading.{act, live}
@@ -7,12 +7,8 @@ use Rattle.text.specs.Text.{longest}
 use Rattle.listing.specs.declared.Run.{Run}
 use Rattle.listing.specs.declared.Fed.{Fed}
 use Rattle.listing.specs.Feed.{acted, feeding}
+use Rattle.listing.specs.Took.{took}
 use Rattle.listing.proofs.Laws.Taking.{takes}
-
--- a run at its end takes no more
-unfoldable pub took : Run → List ℕ → Run
-took r [] = r
-took r (b ∷ bs) = cond (live r.stage) (took (acted r (act r.stage r.part b)).0 bs) r
 
 at-end : (r : Run) (bs : List ℕ) → live r.stage ≡ false → took r bs ≡ r
 unfolding took

@@ -17,7 +17,8 @@ use Rattle.model.specs.Cost.{free}
 use Rattle.model.specs.Event.{number_of, first_of, refusals, refusal, event}
 use Rattle.model.specs.Good.{Rule, whole, room_empty, spin_good, spin_field, shared_rules, field_rules, work_rules, copy_rules, port_rules, ports_rules, rules, passed, good, nowhere, lower, bad_in}
 use Rattle.model.proofs.Laws.Tests.{split}
-use Rattle.model.proofs.Laws.Listed.{rules_at, start_rules}
+use Rattle.model.specs.Parts.Listed.{rules_at}
+use Rattle.model.proofs.Laws.Listed.{start_rules}
 
 -- rule i of a list; past its end, one that passes
 abbrev pub rule_at : List Rule → ℕ → Rule

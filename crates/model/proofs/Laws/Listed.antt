@@ -9,14 +9,10 @@ use Rattle.model.specs.declared.Copies.{Copies}
 use Rattle.model.specs.declared.Table.{Table}
 use Rattle.model.specs.Table.{room, size_good, port_at, copies_at}
 use Rattle.model.specs.Layout.{port_values, copies_values}
-use Rattle.model.specs.Good.{every_below, Rule, place_empty, room_empty, spin_good, shared_rules, field_rules, work_rules, copy_rules, port_rules, ports_rules, rules, passed, good}
+use Rattle.model.specs.Good.{every_below, Rule, place_empty, room_empty, spin_good, shared_rules, field_rules, work_rules, copy_rules, ports_rules, rules, passed, good}
+use Rattle.model.specs.Parts.Listed.{rules_at}
 use Rattle.model.specs.Parts.Good.{shared_good, fields_good, work_good, copies_good, port_empty, port_good, place_good, all_good}
 use Rattle.model.proofs.Laws.Tests.{conjunct, every-below, below-every, ◌and◌}
-
--- the rules for port k of a table
-abbrev pub rules_at : Table → ℕ → List Rule
-rules_at t k =
-    port_rules t.shared k (port_at t k) (copies_at t k) (port_at t (port_at t k).work.seenowner).made (port_at t (port_at t k).work.candidate).made
 
 abbrev pub start_rules : Table → List Rule
 start_rules t = shared_rules (room_empty t) t.shared (port_at t t.shared.word.owner).made

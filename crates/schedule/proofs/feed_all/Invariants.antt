@@ -1,5 +1,5 @@
 use Rattle.std.proofs.Common.{length, ◌-◌, ◌≡◌, ◌≤◌, drop}
-use Rattle.listing.proofs.Laws.Took.{took}
+use Rattle.listing.specs.Took.{took}
 use Rattle.schedule.proofs.feed_all.Given as goal
 
 -- what is left of the piece is always still to be taken
