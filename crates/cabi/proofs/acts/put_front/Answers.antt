@@ -1,10 +1,12 @@
+-- The call is not named, so that another in its place is refused for what it writes.
+use Rattle.std.proofs.Common.{rules}
 use Rattle.cabi.proofs.acts.put_front.Goals as goal
 
 pub returns-in-Add : goal.returns-in-Add
-returns-in-Add c = rw c.in-Add.is c.put_active.ensures
+returns-in-Add c = rw c.in-Add.is (search rules)
 
 pub returns-in-Swap : goal.returns-in-Swap
-returns-in-Swap c = rw c.in-Swap.is c.put_word.ensures
+returns-in-Swap c = rw c.in-Swap.is (search rules)
 
 pub returns-in-Nothing : goal.returns-in-Nothing
 returns-in-Nothing c = rw c.in-Nothing.is
