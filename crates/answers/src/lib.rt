@@ -2,30 +2,63 @@
 #![tactic(auto)]
 
 ghost use Rattle.std.specs.Prelude.{◌≡◌};
-ghost use Rattle.model.specs.Table.{no_work, fresh_table};
-ghost use Rattle.model.specs.Event as Event;
+ghost use Rattle.model.specs.Table.{fresh_table};
+ghost use Rattle.model.specs.Event.{number_of, first_of, refusals};
+ghost use Rattle.model.specs.Event as Events;
+ghost use Rattle.model.specs.Paid.{paid_answer};
 ghost use Rattle.model.specs.Paid as Paid;
+ghost use Rattle.answers.specs.Events.{event_of};
+ghost use Rattle.answers.specs.Verdict.{passed, code_of};
 
-use model::{Answer, Copies, Made, Port, ROOM, Shared, Table, Word, Work};
+use model::{Answer, Copies, Fault, Made, Port, ROOM, Shared, Table, Work};
 use rules::good;
 
-const ENTER: u64 = 1;
+// The events of document 01, section 'Events', by their numbers.
+#[derive(Clone, Copy, PartialEq, Eq)]
+pub enum Event {
+    Enter = 1,
+    Step = 2,
+    Crash = 3,
+    CallOff = 4,
+    Leave = 5,
+}
 
-pub const STEP: u64 = 2;
+impl TryFrom<u64> for Event {
+    type Error = Answer;
 
-const CRASH: u64 = 3;
+    ghost try_from_gives = { λ n r. r ≡ event_of n };
 
-const CALL_OFF: u64 = 4;
+    fn try_from(number: u64) -> Result<Event, Answer> {
+        match number {
+            1 => Ok(Event::Enter),
+            2 => Ok(Event::Step),
+            3 => Ok(Event::Crash),
+            4 => Ok(Event::CallOff),
+            5 => Ok(Event::Leave),
+            _ => Err(Answer::NoSuchEvent),
+        }
+    }
+}
 
-const LEAVE: u64 = 5;
+// What an order costs in both models.
+#[derive(Clone, Copy)]
+pub struct Costs {
+    pub cached: u8,
+    pub distributed: u8,
+}
 
-const BAD_TABLE: u64 = 1;
-
-const NO_SUCH_PORT: u64 = 2;
+impl Costs {
+    // Of an order that is no step, or is refused.
+    pub const FREE: Costs = Costs {
+        cached: 0,
+        distributed: 0,
+    };
+}
 
 // Document 01's number of an answer.
+// Stays a number beside the enum: the C interface and the printed answers are such numbers (definition number_of).
 pub fn number(answer: Answer) -> u64
-    ensures { result ≡ Event.number_of answer }
+    ensures { result ≡ number_of answer }
 {
     match answer {
         Answer::Done => 0,
@@ -43,52 +76,45 @@ pub fn number(answer: Answer) -> u64
     }
 }
 
-// All working values 0.
-fn no_work() -> Work
-    ensures { result ≡ no_work }
+// What goes with BAD TABLE, and the fault of the table as a whole with every other answer.
+fn fault_in(answer: Answer) -> Fault
+    ensures { result ≡ Events.fault_in answer }
 {
-    Work {
-        own: 0,
-        seenspin: 0,
-        candidatespin: 0,
-        seenowner: 0,
-        candidate: 0,
+    match answer {
+        Answer::BadTable(fault) => fault,
+        _ => Fault::default(),
+    }
+}
+
+// What an order comes to, in one number: its costs from bits 8 and 16 on, or the number of its refusal with what is bad from bits 8, 16 and 24 on.
+// Stays one number: the C interface and the places of a run hold such numbers (definition Run.code_of).
+#[tactic(auto, unfolding(crate::specs::Verdict::code_of, model::specs::Event::answer_code))]
+pub fn code(paid: Result<Costs, Answer>) -> u64
+    ensures { result ≡ code_of paid }
+{
+    match paid {
+        Ok(costs) => 256 * u64::from(costs.cached) + 65536 * u64::from(costs.distributed),
+        Err(answer) => {
+            let fault = fault_in(answer);
+            number(answer)
+                + 256 * u64::from(fault.kind)
+                + 65536 * u64::from(fault.port)
+                + 16777216 * u64::from(fault.place)
+        }
     }
 }
 
 // The fresh table of d ports.
+#[tactic(auto, unfolding(model::specs::Table::fresh_table, model::specs::Table::room))]
 fn blank(d: u64) -> Table
     ensures { result ≡ fresh_table d }
 {
-    let work = no_work();
-    let port = Port {
-        work,
-        made: 0,
-        go: 0,
-        point: 0,
-        status: 0,
-        flag: 0,
-        value: 0,
-    };
-    let none = Copies {
-        status: 0,
-        go: 0,
-        spin: 0,
-    };
-    let word = Word {
-        spin: 0,
-        owner: 0,
-        taken: 0,
-    };
+    let ports = [Port::default(); ROOM];
+    let copies = [Copies::default(); ROOM];
     let shared = Shared {
-        active: 0,
-        activecopies: 0,
-        wordcopies: 0,
         d,
-        word,
+        ..Shared::default()
     };
-    let ports = [port; ROOM];
-    let copies = [none; ROOM];
     Table {
         ports,
         copies,
@@ -97,8 +123,10 @@ fn blank(d: u64) -> Table
 }
 
 // The fresh table of D ports; D not 1 to the room is BAD SIZE with the fresh table of D = 1.
+// Stays a Made and no Result: there is a table on refusal too (definition Event.fresh).
+#[tactic(auto, unfolding(model::specs::Event::fresh))]
 pub fn fresh(d: u64) -> Made
-    ensures { result ≡ Event.fresh d }
+    ensures { result ≡ Events.fresh d }
 {
     if good::size_good(d) {
         Made {
@@ -114,92 +142,87 @@ pub fn fresh(d: u64) -> Made
 }
 
 // What an event answers at a port that there is: the lowest refusal that applies.
-pub fn refusal(event: u64, p: Port) -> Answer
-    ensures { result ≡ Event.first_of (Event.refusals event p) }
+// Stays a number, as in `first` and `ordered`: a caller may give any, and one that is no event is refused (definition Event.refusals). A port's point stays a
+// byte: a table holds any (definition Good.named).
+#[tactic(auto, unfolding(crate::specs::Verdict::passed, model::specs::Event::first_of, model::specs::Event::refusals, model::specs::Table::most))]
+pub fn refusal(event: u64, p: Port) -> Result<(), Answer>
+    ensures { result ≡ passed (first_of (refusals event p)) }
 {
     let point = p.point;
-    match event {
-        ENTER => {
+    match Event::try_from(event)? {
+        Event::Enter => {
             if point != 0 {
-                return Answer::Busy;
+                return Err(Answer::Busy);
             }
             if p.made == good::MOST {
-                return Answer::Worn;
+                return Err(Answer::Worn);
             }
-            Answer::Done
         }
-        STEP => {
+        Event::Step => {
             if (point == 4) & (p.made == good::MOST) {
-                return Answer::Worn;
+                return Err(Answer::Worn);
             }
             if point == 0 {
-                return Answer::Idle;
+                return Err(Answer::Idle);
             }
             if point == 11 {
-                return Answer::Inside;
+                return Err(Answer::Inside);
             }
-            Answer::Done
         }
-        CRASH | CALL_OFF => {
+        Event::Crash | Event::CallOff => {
             if point == 0 {
-                return Answer::Idle;
+                return Err(Answer::Idle);
             }
-            Answer::Done
         }
-        LEAVE => {
+        Event::Leave => {
             if point != 11 {
-                return Answer::NotInside;
+                return Err(Answer::NotInside);
             }
-            Answer::Done
         }
-        _ => Answer::NoSuchEvent,
     }
+    Ok(())
 }
 
 // What a step needs of its port.
+#[tactic(auto, unfolding(model::specs::Paid::placed, model::specs::Table::most))]
 fn placed(d: u64, p: Port) -> bool
     ensures { result ≡ Paid.placed d p }
 {
     ((p.work.seenowner as u64) < d) & ((p.work.candidate as u64) < d) & (p.made <= good::MOST)
 }
 
-// The number that an order answers before anything is changed, from what all share and its port.
-pub fn first(s: Shared, k: u64, event: u64, p: Port) -> u64
-    ensures { result ≡ Event.number_of (Paid.paid_answer s k event p) }
+// What an order answers before anything is changed, from what all share and its port.
+#[tactic(auto, unfolding(crate::specs::Verdict::passed, model::specs::Event::first_of, model::specs::Paid::paid_answer))]
+pub fn first(s: Shared, k: u64, event: u64, p: Port) -> Result<(), Answer>
+    ensures { result ≡ passed (paid_answer s k event p) }
 {
     let d = s.d;
+    let bad = Answer::BadTable(Fault::default());
     if !(good::size_good(d) & masks::within(d, s.active)) {
-        return BAD_TABLE;
+        return Err(bad);
     }
     if d <= k {
-        return NO_SUCH_PORT;
+        return Err(Answer::NoSuchPort);
     }
     if !placed(d, p) {
-        return BAD_TABLE;
+        return Err(bad);
     }
-    let a = refusal(event, p);
-    number(a)
+    refusal(event, p)
 }
 
-// A port after an event that is no step.
+// A port after an event that is no step. A step and a number that is no event count as L: an order is refused before that.
+#[tactic(auto, unfolding(model::specs::Event::ordered))]
 pub fn ordered(event: u64, p: Port) -> Port
-    ensures { result ≡ Event.ordered event p }
+    ensures { result ≡ Events.ordered event p }
 {
-    let mut q = p;
-    if event == ENTER {
-        q.point = 1;
-        return q;
+    match Event::try_from(event) {
+        Ok(Event::Enter) => Port { point: 1, ..p },
+        Ok(Event::Crash) => Port {
+            point: 1,
+            work: Work::default(),
+            ..p
+        },
+        Ok(Event::CallOff) => Port { flag: 1, ..p },
+        Ok(Event::Step) | Ok(Event::Leave) | Err(_) => Port { point: 13, ..p },
     }
-    if event == CRASH {
-        let work = no_work();
-        q.point = 1;
-        q.work = work;
-        return q;
-    }
-    if event == CALL_OFF {
-        q.flag = 1;
-        return q;
-    }
-    q.point = 13;
-    q
 }

@@ -1,5 +1,6 @@
 -- The calls from C and Rust, over images in lent buffers: what each answers, in document 01's numbers, and what stands in each buffer after it.
 use Rattle.std.specs.Prelude.{cond, ◌&&◌, ℕ, ◌+◌, ◌*◌, eqb, ltb, length}
+use Rattle.std.specs.Result.{result_unwrap_or}
 use mathlib.Core.List.{List, [], ◌∷◌, foldl}
 use Rattle.std.proofs.lemmas.List.Edits.{sets}
 use Rattle.model.specs.declared.Outcome.{Outcome}
@@ -15,7 +16,7 @@ unfoldable pub fresh_answer : ℕ → ℕ → Answer
 fresh_answer d n = cond (eqb (number_of (fresh d).answer) 0) (write_answer (fresh d).table n) (fresh d).answer
 
 unfoldable pub fresh_call : ℕ → ℕ → ℕ
-fresh_call d n = number_of (fresh_answer d n) + 256 * (written (fresh_answer d n) (fresh d).table).length
+fresh_call d n = number_of (fresh_answer d n) + 256 * result_unwrap_or (written (fresh_answer d n) (fresh d).table) 0
 
 unfoldable pub fresh_room : ℕ → List ℕ → List ℕ
 fresh_room d room = room_after (fresh_answer d (length room)) (fresh d).table room

@@ -3,20 +3,15 @@
 
 mod acts;
 
-ghost use Rattle.std.specs.Prelude.{◌≡◌, ◌+◌, ◌*◌, min, length};
-ghost use Rattle.model.specs.Event.{number_of};
+ghost use Rattle.std.specs.Prelude.{◌≡◌, length};
 ghost use Rattle.model.specs.Run.{orders_for};
-ghost use Rattle.image.specs.Image.{decode};
+ghost use Rattle.answers.specs.Verdict.{paid};
 ghost use Rattle.cabi.specs.Calls as Calls;
 
+use answers::Costs;
 use image::{checking, writer};
+use model::Answer;
 use rules::good;
-
-const BAD_TABLE: u64 = 1;
-
-const BAD_SIZE: u64 = 9;
-
-const SHORT_ROOM: u64 = 10;
 
 // Writes the image of a fresh table of d ports: number + 256 * length. Refused (9, then 10): the room is untouched, length 0.
 #[unsafe(no_mangle)]
@@ -25,35 +20,32 @@ pub extern "C" fn yarvelow_fresh(d: u64, room: &mut [u8]) -> u64
     ensures room_after { room.new ≡ Calls.fresh_room d room.old }
 {
     if !good::size_good(d) {
-        return BAD_SIZE;
+        return answers::number(Answer::BadSize);
     }
-    let w = writer::blank(d, room);
-    let a = w.answer;
-    answers::number(a) + 256 * (w.length as u64)
+    match writer::blank(d, room) {
+        Ok(length) => 256 * length as u64,
+        Err(answer) => answers::number(answer),
+    }
 }
 
-// What the reader answers to an image that it refuses, by its number: for a bad table 1 + 256 * kind + 65536 * port + 16777216 * place.
-fn refused(image: &[u8], number: u64) -> u64
-    requires { number ≡ number_of (decode image.now).answer }
-    ensures { result ≡ Calls.check_call image.now }
-{
-    if number != BAD_TABLE {
-        return number;
-    }
-    let f = checking::bad(image);
-    1 + 256 * (f.kind as u64) + 65536 * (f.port as u64) + 16777216 * (f.place as u64)
-}
-
-// The reader's answer to an image: 0, or why it is refused.
+// The reader's answer to an image: 0, or why it is refused; for a bad table 1 + 256 * kind + 65536 * port + 16777216 * place.
 #[unsafe(no_mangle)]
 pub extern "C" fn yarvelow_check(image: &[u8]) -> u64
     ensures { result ≡ Calls.check_call image.now }
 {
-    let bad = checking::number(image);
-    if bad != 0 {
-        return refused(image, bad);
+    match checking::check(image) {
+        Ok(_) => 0,
+        Err(answer) => answers::code(Err(answer)),
     }
-    0
+}
+
+// What an event on an image comes to: refused by the reader, then by the event, every byte is as it was.
+fn event_in(image: &mut [u8], port: u64, event: u64) -> Result<Costs, Answer>
+    ensures value { result ≡ paid (Calls.event_on image.old port event) }
+    ensures image_after { image.new ≡ Calls.event_image image.old port event }
+{
+    let d = checking::check(image)?;
+    acts::act_in(image, d, port, event)
 }
 
 // An event on an image, changed where it stands: number + 256 * cached + 65536 * distributed. Refused, by the reader and then by the event: every byte is as
@@ -63,12 +55,23 @@ pub extern "C" fn yarvelow_event(image: &mut [u8], port: u64, event: u64) -> u64
     ensures value { result ≡ Calls.event_call image.old port event }
     ensures image_after { image.new ≡ Calls.event_image image.old port event }
 {
-    let bad = checking::number(image);
-    if bad != 0 {
-        return refused(image, bad);
+    answers::code(event_in(image, port, event))
+}
+
+// The same from one buffer into another: refused also for want of room, every byte of `next` is as it was.
+fn event_into(image: &[u8], next: &mut [u8], port: u64, event: u64) -> Result<Costs, Answer>
+    ensures value { result ≡ paid (Calls.into_on image.now (length next.old) port event) }
+    ensures next_after { next.new ≡ Calls.into_next image.now next.old port event }
+{
+    let d = checking::check(image)?;
+    acts::refusal_in(image, d, port, event)?;
+    let n = image.len();
+    if next.len() < n {
+        return Err(Answer::ShortRoom);
     }
-    let d = records::d_in(image);
-    acts::act_in(image, d, port, event)
+    let start = &mut next[..n];
+    start.copy_from_slice(image);
+    Ok(acts::carry_in(start, d, port as u8, event))
 }
 
 // The same from one buffer into another: `image` is only read, and done, `next` begins with the image after the event. Refused, by the reader, then by the
@@ -78,28 +81,7 @@ pub extern "C" fn yarvelow_event_into(image: &[u8], next: &mut [u8], port: u64, 
     ensures value { result ≡ Calls.into_call image.now (length next.old) port event }
     ensures next_after { next.new ≡ Calls.into_next image.now next.old port event }
 {
-    let bad = checking::number(image);
-    if bad != 0 {
-        return refused(image, bad);
-    }
-    let d = records::d_in(image);
-    let refused = acts::refusal_in(image, d, port, event);
-    if refused != 0 {
-        return refused;
-    }
-    let n = image.len();
-    if next.len() < n {
-        return SHORT_ROOM;
-    }
-    let start = &mut next[..n];
-    start.copy_from_slice(image);
-    acts::carry_in(start, d, port as u8, event)
-}
-
-fn least(a: usize, b: usize) -> usize
-    ensures { result ≡ min a b }
-{
-    if a < b { a } else { b }
+    answers::code(event_into(image, next, port, event))
 }
 
 // As many events on an image as there are pairs of port and event and places for their answers, with one check of its table: answers[i] is what
@@ -110,16 +92,14 @@ pub extern "C" fn yarvelow_run(image: &mut [u8], orders: &[u64], answers: &mut [
     ensures image_after { image.new ≡ Calls.calls_image image.old (orders_for orders.now answers.old) }
     ensures answers_after { answers.new ≡ Calls.run_places image.old (orders_for orders.now answers.old) answers.old }
 {
-    let bad = checking::number(image);
-    if bad != 0 {
-        return refused(image, bad);
-    }
-    let d = records::d_in(image);
-    let n = least(orders.len() / 2, answers.len());
-    let mut i: usize = 0;
-    while i < n {
-        answers[i] = acts::act_in(image, d, orders[2 * i], orders[2 * i + 1]);
-        i += 1;
+    let d = match checking::check(image) {
+        Ok(d) => d,
+        Err(answer) => return answers::code(Err(answer)),
+    };
+    let n = (orders.len() / 2).min(answers.len());
+    // Stays an index: after a loop over a zip of iter_mut a proof knows no answer that was written (tried: the proof of answers_after doesn't close).
+    for i in 0..n {
+        answers[i] = answers::code(acts::act_in(image, d, orders[2 * i], orders[2 * i + 1]));
     }
     0
 }

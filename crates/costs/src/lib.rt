@@ -14,14 +14,9 @@ pub fn home(cell: Cell, k: u64, w: Work) -> u64
     ensures { result ≡ Charges.home cell k w }
 {
     match cell {
-        Cell::Nothing => k,
-        Cell::Status => k,
-        Cell::Go => k,
-        Cell::Spin => k,
-        Cell::Active => k,
-        Cell::Lock => k,
         Cell::CandidateGo => w.candidate as u64,
         Cell::SeenSpin => w.seenowner as u64,
+        Cell::Nothing | Cell::Status | Cell::Go | Cell::Spin | Cell::Active | Cell::Lock => k,
     }
 }
 
@@ -36,12 +31,8 @@ fn distributed(cell: Cell, k: u64, w: Work) -> u64
     ensures { result ≡ Charges.distributed cell k w }
 {
     match cell {
-        Cell::Nothing => 0,
-        Cell::Status => 0,
-        Cell::Go => 0,
-        Cell::Spin => 0,
-        Cell::Active => 1,
-        Cell::Lock => 1,
+        Cell::Nothing | Cell::Status | Cell::Go | Cell::Spin => 0,
+        Cell::Active | Cell::Lock => 1,
         Cell::CandidateGo => remote(w.candidate, k),
         Cell::SeenSpin => remote(w.seenowner, k),
     }
@@ -51,7 +42,7 @@ fn distributed(cell: Cell, k: u64, w: Work) -> u64
 pub fn latest(p: Port, n: u16) -> bool
     ensures { result ≡ Table.latest p n }
 {
-    (n == p.made) & !(p.made == 0)
+    (n == p.made) & (p.made != 0)
 }
 
 // The word is a spin that isn't the latest of its port, q.
@@ -59,14 +50,11 @@ fn old(cell: Cell, w: Work, q: Port) -> bool
     ensures { result ≡ Charges.old cell w q }
 {
     match cell {
-        Cell::Nothing => false,
-        Cell::Status => false,
-        Cell::Go => false,
         Cell::Spin => !latest(q, w.own),
-        Cell::Active => false,
-        Cell::Lock => false,
-        Cell::CandidateGo => false,
         Cell::SeenSpin => !latest(q, w.seenspin),
+        Cell::Nothing | Cell::Status | Cell::Go | Cell::Active | Cell::Lock | Cell::CandidateGo => {
+            false
+        }
     }
 }
 
@@ -77,12 +65,10 @@ fn holders(cell: Cell, s: Shared, c: Copies) -> u64
     match cell {
         Cell::Nothing => 0,
         Cell::Status => c.status,
-        Cell::Go => c.go,
-        Cell::Spin => c.spin,
+        Cell::Go | Cell::CandidateGo => c.go,
+        Cell::Spin | Cell::SeenSpin => c.spin,
         Cell::Active => s.activecopies,
         Cell::Lock => s.wordcopies,
-        Cell::CandidateGo => c.go,
-        Cell::SeenSpin => c.spin,
     }
 }
 
@@ -99,9 +85,7 @@ fn cached(kind: Kind, k: u64, m: u64) -> u64
     match kind {
         Kind::Nothing => 0,
         Kind::Read => missed(m, k),
-        Kind::Write => 1,
-        Kind::Add => 1,
-        Kind::Swap => 1,
+        Kind::Write | Kind::Add | Kind::Swap => 1,
     }
 }
 
@@ -111,9 +95,7 @@ fn copied(kind: Kind, k: u64, m: u64) -> u64
     match kind {
         Kind::Nothing => m,
         Kind::Read => masks::joined(m, k),
-        Kind::Write => masks::alone(k),
-        Kind::Add => masks::alone(k),
-        Kind::Swap => masks::alone(k),
+        Kind::Write | Kind::Add | Kind::Swap => masks::alone(k),
     }
 }
 
@@ -121,62 +103,35 @@ fn copied(kind: Kind, k: u64, m: u64) -> u64
 fn put_shared(cell: Cell, m: u64, s: Shared) -> Shared
     ensures { result ≡ Charges.put_shared cell m s }
 {
-    let mut t = s;
     match cell {
-        Cell::Nothing => s,
-        Cell::Status => s,
-        Cell::Go => s,
-        Cell::Spin => s,
-        Cell::Active => {
-            t.activecopies = m;
-            t
-        }
-        Cell::Lock => {
-            t.wordcopies = m;
-            t
-        }
-        Cell::CandidateGo => s,
-        Cell::SeenSpin => s,
+        Cell::Active => Shared {
+            activecopies: m,
+            ..s
+        },
+        Cell::Lock => Shared { wordcopies: m, ..s },
+        Cell::Nothing | Cell::Status | Cell::Go | Cell::Spin | Cell::CandidateGo | Cell::SeenSpin =>
+            s,
     }
 }
 
 fn put_copies(cell: Cell, m: u64, c: Copies) -> Copies
     ensures { result ≡ Charges.put_copies cell m c }
 {
-    let mut b = c;
     match cell {
-        Cell::Nothing => c,
-        Cell::Status => {
-            b.status = m;
-            b
-        }
-        Cell::Go => {
-            b.go = m;
-            b
-        }
-        Cell::Spin => {
-            b.spin = m;
-            b
-        }
-        Cell::Active => c,
-        Cell::Lock => c,
-        Cell::CandidateGo => {
-            b.go = m;
-            b
-        }
-        Cell::SeenSpin => {
-            b.spin = m;
-            b
-        }
+        Cell::Status => Copies { status: m, ..c },
+        Cell::Go | Cell::CandidateGo => Copies { go: m, ..c },
+        Cell::Spin | Cell::SeenSpin => Copies { spin: m, ..c },
+        Cell::Nothing | Cell::Active | Cell::Lock => c,
     }
 }
 
 // What a touch by port k costs, and the ports with a copy of the word after it; q is the port that the word belongs to, and m the set before.
+// Stays k, w and q apart, as in `charge`: no plainer as a struct, which would be made for one call and opened in it.
+#[tactic(auto, unfolding(model::specs::Parts::Charges::fee_of))]
 pub fn fee(u: Touch, k: u64, w: Work, q: Port, m: u64) -> Fee
     ensures { result ≡ Charges.fee_of u (k % 64) w q m }
 {
-    let cell = u.cell;
-    let kind = u.kind;
+    let Touch { cell, kind } = u;
     let apart = distributed(cell, k % 64, w);
     if old(cell, w, q) {
         return Fee {

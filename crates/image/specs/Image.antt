@@ -1,5 +1,5 @@
 -- What is written and what is read (document 01, 'The image' and 'Refusal numbers').
-use Rattle.std.specs.Prelude.{cond, ℕ, ◌-◌, eqb, ltb, take, drop, replicate}
+use Rattle.std.specs.Prelude.{cond, ℕ, ◌-◌, eqb, ltb, take, drop, replicate, Result, Ok, Err}
 use mathlib.Core.List.{List, ◌++◌, map, flat_map}
 use Rattle.std.proofs.lemmas.List.Edits.{sets}
 use Rattle.model.specs.declared.Table.{Table}
@@ -11,7 +11,6 @@ use Rattle.model.specs.Good.{good, bad_in}
 use Rattle.model.specs.Event.{number_of}
 use Rattle.model.specs.Bytes.{sum, pack, unpack, unpacks}
 use Rattle.model.specs.Layout.{shared_widths, port_widths, copied_widths, copies_widths, head_widths, shared_values, port_values, copied_values, copies_values, head_values, shared_of, port_of, copies_of, port_place, copies_place, size, d_in, is_image}
-use Rattle.image.specs.declared.Written.{Written}
 
 -- the image of a table
 unfoldable pub encode : Table → List ℕ
@@ -37,13 +36,17 @@ decode bs =
     let t = held (d_in bs) bs in
     cond (is_image bs) (cond (good t) (record { table = t; answer = Done }) (refused (BadTable (bad_in t)))) (refused BadImage)
 
+-- what a check answers: D of an image that is accepted, else the reader's answer
+unfoldable pub checked : List ℕ → Result ℕ Answer
+checked bs = cond (eqb (number_of (decode bs).answer) 0) (Ok (d_in bs)) (Err (decode bs).answer)
+
 -- what writing answers to a room of n bytes: BAD TABLE, then SHORT ROOM
 unfoldable pub write_answer : Table → ℕ → Answer
 write_answer t n = cond (good t) (cond (ltb n (size t.shared.d)) ShortRoom Done) (BadTable (bad_in t))
 
--- what goes with an answer: done, the image's length and the image at the room's start; else length 0 and the room as it was
-unfoldable pub written : Answer → Table → Written
-written a t = record { answer = a; length = cond (eqb (number_of a) 0) (size t.shared.d) 0 }
+-- what goes with an answer: done, the image's length and the image at the room's start; else the refusal and the room as it was
+unfoldable pub written : Answer → Table → Result ℕ Answer
+written a t = cond (eqb (number_of a) 0) (Ok (size t.shared.d)) (Err a)
 
 unfoldable pub room_after : Answer → Table → List ℕ → List ℕ
 room_after a t out = cond (eqb (number_of a) 0) (sets out 0 (encode t)) out

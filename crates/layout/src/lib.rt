@@ -1,5 +1,5 @@
-// The layout of an image: the widths of each record's fields, its values in their order, the head, and where each record stands. Here alone stand numbers of
-// the layout. D and a port's number are bytes, as in the image, so that no size or place is out of reach.
+// The layout of an image: the form of each record, its values in their order, the head, and where each record stands. Here alone stand numbers of the
+// layout. D and a port's number are bytes, as in the image, so that no size or place is out of reach.
 #![tactic(auto)]
 
 ghost use Rattle.std.specs.Prelude.{◌≡◌, ◌+◌, ◌*◌, ◌≤◌};
@@ -7,101 +7,96 @@ ghost use Rattle.model.specs.Bytes.{sum, pack, unpack};
 ghost use Rattle.model.specs.Layout as Layout;
 ghost use Rattle.layout.specs.Places as Places;
 
+mod form;
+
+pub use form::Form;
 use model::{Cell, Copies, Port, Shared, Word, Work};
 
-pub const HEAD: [usize; 8] = [1, 1, 2, 2, 2, 2, 2, 2];
-
-pub const SHARED: [usize; 4] = [8, 1, 1, 2];
-
-pub const PORT: [usize; 11] = [1, 1, 1, 1, 2, 2, 2, 1, 2, 1, 2];
-
-pub const COPIED: [usize; 2] = [2, 2];
-
-pub const COPIES: [usize; 3] = [2, 2, 2];
-
-pub const COPIED_WIDE: [usize; 2] = [8, 8];
-
-pub const COPIES_WIDE: [usize; 3] = [8, 8, 8];
-
-// Single fields: a copy set, the latest value in a port's record, and the word in the record that all share.
-pub const SET: [usize; 1] = [2];
-
-pub const SET_WIDE: [usize; 1] = [8];
-
-pub const VALUE: [usize; 1] = [1];
-
-pub const VALUE_AT: usize = 3;
-
-pub const WORD: [usize; 3] = [1, 1, 2];
-
-pub const WORD_AT: usize = 8;
-
-// The most ports whose copy sets take two bytes.
-pub const NARROW: u8 = 16;
-
-// The bytes of each record.
+// The bytes of the records that each image has.
 pub const HEAD_SIZE: usize = 14;
 
 pub const SHARED_SIZE: usize = 12;
 
 pub const PORT_SIZE: usize = 16;
 
-pub const COPIED_SIZE: usize = 4;
+pub const HEAD: Form<8> = Form {
+    widths: [1, 1, 2, 2, 2, 2, 2, 2],
+    size: HEAD_SIZE,
+};
 
-pub const COPIES_SIZE: usize = 6;
+pub const SHARED: Form<4> = Form {
+    widths: [8, 1, 1, 2],
+    size: SHARED_SIZE,
+};
 
-pub const COPIED_WIDE_SIZE: usize = 16;
+pub const PORT: Form<11> = Form {
+    widths: [1, 1, 1, 1, 2, 2, 2, 1, 2, 1, 2],
+    size: PORT_SIZE,
+};
 
-pub const COPIES_WIDE_SIZE: usize = 24;
+// Single fields: the latest value in a port's record, and ACTIVE and the word in the record that all share.
+pub const VALUE: Form<1> = Form {
+    widths: [1],
+    size: 1,
+};
 
-fn wide8(x: u8) -> u64
-    ensures { result ≡ x }
-{
-    x as u64
-}
+pub const VALUE_AT: usize = 3;
 
-fn wide16(n: u16) -> u64
-    ensures { result ≡ n }
-{
-    n as u64
-}
+pub const ACTIVE: Form<1> = Form {
+    widths: [8],
+    size: 8,
+};
+
+pub const WORD: Form<3> = Form {
+    widths: [1, 1, 2],
+    size: 4,
+};
+
+pub const WORD_AT: usize = 8;
+
+// The most ports whose copy sets take two bytes.
+pub const NARROW: u8 = 16;
 
 // The values of a record, in the layout's order.
+#[tactic(auto, unfolding(model::specs::Layout::shared_values))]
 pub fn shared_values(s: Shared) -> [u64; 4]
     ensures { result ≡ Layout.shared_values s }
 {
     [
         s.active,
-        wide8(s.word.taken),
-        wide8(s.word.owner),
-        wide16(s.word.spin),
+        u64::from(s.word.taken),
+        u64::from(s.word.owner),
+        u64::from(s.word.spin),
     ]
 }
 
+#[tactic(auto, unfolding(model::specs::Layout::port_values))]
 pub fn port_values(p: Port) -> [u64; 11]
     ensures { result ≡ Layout.port_values p }
 {
     [
-        wide8(p.point),
-        wide8(p.status),
-        wide8(p.flag),
-        wide8(p.value),
-        wide16(p.made),
-        wide16(p.go),
-        wide16(p.work.own),
-        wide8(p.work.seenowner),
-        wide16(p.work.seenspin),
-        wide8(p.work.candidate),
-        wide16(p.work.candidatespin),
+        u64::from(p.point),
+        u64::from(p.status),
+        u64::from(p.flag),
+        u64::from(p.value),
+        u64::from(p.made),
+        u64::from(p.go),
+        u64::from(p.work.own),
+        u64::from(p.work.seenowner),
+        u64::from(p.work.seenspin),
+        u64::from(p.work.candidate),
+        u64::from(p.work.candidatespin),
     ]
 }
 
+#[tactic(auto, unfolding(model::specs::Layout::copied_values))]
 pub fn copied_values(s: Shared) -> [u64; 2]
     ensures { result ≡ Layout.copied_values s }
 {
     [s.activecopies, s.wordcopies]
 }
 
+#[tactic(auto, unfolding(model::specs::Layout::copies_values))]
 pub fn copies_values(c: Copies) -> [u64; 3]
     ensures { result ≡ Layout.copies_values c }
 {
@@ -109,6 +104,7 @@ pub fn copies_values(c: Copies) -> [u64; 3]
 }
 
 // A record from its values, of each what is left in its width.
+// Stays cut by `%`: no plainer, since `as` is proved to lose nothing and the library has no method that cuts.
 pub fn shared_of(d: u64, v: [u64; 4], c: [u64; 2]) -> Shared
     ensures { result ≡ Layout.shared_of d (unpack Layout.shared_widths (pack Layout.shared_widths v)) c }
 {
@@ -153,6 +149,7 @@ pub fn port_of(v: [u64; 11]) -> Port
     }
 }
 
+#[tactic(auto, unfolding(model::specs::Layout::copies_of))]
 pub fn copies_of(v: [u64; 3]) -> Copies
     ensures { result ≡ Layout.copies_of v }
 {
@@ -167,13 +164,11 @@ pub fn copies_of(v: [u64; 3]) -> Copies
 fn copies_long(d: u8) -> u64
     ensures { result ≡ sum (Layout.copied_widths d) + d * sum (Layout.copies_widths d) }
 {
-    let n = d as u64;
-    if d <= NARROW {
-        return COPIED_SIZE as u64 + n * COPIES_SIZE as u64;
-    }
-    COPIED_WIDE_SIZE as u64 + n * COPIES_WIDE_SIZE as u64
+    let set = set_width(d) as u64;
+    2 * set + u64::from(d) * (3 * set)
 }
 
+#[tactic(auto, unfolding(model::specs::Layout::version))]
 fn version(d: u8) -> u64
     ensures { result ≡ Layout.version d }
 {
@@ -181,10 +176,11 @@ fn version(d: u8) -> u64
 }
 
 // The head of the image of d ports: version, D, start and length of each body.
+#[tactic(auto, unfolding(model::specs::Bytes::sum, model::specs::Layout::head_widths, model::specs::Layout::shared_widths, model::specs::Layout::port_widths, model::specs::Layout::port_place, model::specs::Layout::head_values))]
 pub fn head_values(d: u8) -> [u64; 8]
     ensures { result ≡ Layout.head_values d }
 {
-    let n = d as u64;
+    let n = u64::from(d);
     let shared = HEAD_SIZE as u64;
     let ports = shared + SHARED_SIZE as u64;
     let copies = ports + n * PORT_SIZE as u64;
@@ -201,25 +197,22 @@ pub fn head_values(d: u8) -> [u64; 8]
 }
 
 // Where port k stands; where the copy sets of port k stand in the image of d ports.
+#[tactic(auto, unfolding(model::specs::Bytes::sum, model::specs::Layout::head_widths, model::specs::Layout::shared_widths, model::specs::Layout::port_widths, model::specs::Layout::port_place))]
 pub fn port_place(k: u8) -> usize
     ensures { result ≡ Layout.port_place k }
 {
-    let i = k as usize;
-    HEAD_SIZE + SHARED_SIZE + i * PORT_SIZE
+    HEAD_SIZE + SHARED_SIZE + usize::from(k) * PORT_SIZE
 }
 
 pub fn copies_place(d: u8, k: u8) -> usize
     ensures { result ≡ Layout.copies_place d k }
 {
-    let n = d as usize;
-    let i = k as usize;
-    if d <= NARROW {
-        return HEAD_SIZE + SHARED_SIZE + n * PORT_SIZE + COPIED_SIZE + i * COPIES_SIZE;
-    }
-    HEAD_SIZE + SHARED_SIZE + n * PORT_SIZE + COPIED_WIDE_SIZE + i * COPIES_WIDE_SIZE
+    let set = set_width(d);
+    port_place(d) + 2 * set + usize::from(k) * (3 * set)
 }
 
 // Where the copy set of a word stands in the image of d ports, j being the port that the word belongs to; where there is no word, past the image.
+// Stays a number there and no None: the definition Places.set_place gives a place to each word, Nothing too.
 pub fn set_place(cell: Cell, d: u8, j: u8) -> usize
     ensures { result ≡ Places.set_place cell d j }
 {
@@ -239,6 +232,7 @@ pub fn set_place(cell: Cell, d: u8, j: u8) -> usize
 }
 
 // The bytes of a copy set in the image of d ports.
+#[tactic(auto, unfolding(model::specs::Layout::set_width))]
 pub fn set_width(d: u8) -> usize
     ensures value { result ≡ Layout.set_width d }
     ensures upper_bound { result ≤ 8 }
@@ -247,6 +241,7 @@ pub fn set_width(d: u8) -> usize
 }
 
 // The length of the image of d ports.
+#[tactic(auto, unfolding(model::specs::Layout::size))]
 pub fn size(d: u8) -> usize
     ensures { result ≡ Layout.size d }
 {

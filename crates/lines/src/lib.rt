@@ -22,6 +22,7 @@ pub enum Stage {
 
 // What a run does with a byte: it keeps what it has read of a line, opens a table of so many ports, carries out an event at a port, or ends at a
 // malformed line.
+// Stays a number, an order's event: definition Reading.act gives it, and lock::orders::order takes any number.
 #[derive(Clone, Copy)]
 pub enum Act {
     Keep(Part),

@@ -1,50 +1,23 @@
 // A schedule's lines, read byte by byte.
-ghost use Rattle.std.specs.Prelude.{◌&&◌, ◌≡◌, ◌-◌, ltb};
-ghost use Rattle.lines.specs.Line as Line;
+ghost use Rattle.std.specs.Prelude.{◌≡◌};
+ghost use Rattle.lines.specs.Letters.{told_event};
 ghost use Rattle.lines.specs.Reading as Reading;
 
 use crate::{Act, Part, Stage};
+use answers::Event;
 use rules::good;
 
-const NEWLINE: u8 = 10;
-
-const SPACE: u8 = 32;
-
-const ZERO: u8 = 48;
-
-const NINE: u8 = 57;
-
-fn is_digit(b: u8) -> bool
-    ensures { result ≡ Line.digit b }
-{
-    (ZERO <= b) & (b <= NINE)
-}
-
-// A digit's value; 0 of a byte below the digits.
-fn value(b: u8) -> u64
-    ensures { result ≡ b - 48 }
-{
-    if ZERO <= b { (b - ZERO) as u64 } else { 0 }
-}
-
-// A number goes on with a digit where it is neither 0 nor of three digits.
-fn goes_on(n: u64, b: u8) -> bool
-    ensures { result ≡ (Line.digit b && ltb 0 n && ltb n 100) }
-{
-    is_digit(b) & (0 < n) & (n < 100)
-}
-
-// The event that a letter stands for, or 0.
-fn event_of(letter: u8) -> u64
-    ensures { result ≡ Line.event_of letter }
+// The event that a letter stands for.
+fn event_of(letter: u8) -> Option<Event>
+    ensures { result ≡ told_event letter }
 {
     match letter {
-        69 => 1,
-        83 => 2,
-        88 => 3,
-        65 => 4,
-        76 => 5,
-        _ => 0,
+        b'E' => Some(Event::Enter),
+        b'S' => Some(Event::Step),
+        b'X' => Some(Event::Crash),
+        b'A' => Some(Event::CallOff),
+        b'L' => Some(Event::Leave),
+        _ => None,
     }
 }
 
@@ -52,24 +25,24 @@ fn event_of(letter: u8) -> u64
 fn opening(letter: u8, n: u64) -> Act
     ensures { result ≡ Reading.line_act Stage.Opening letter n }
 {
-    if (letter == 68) & good::size_good(n) {
+    if letter == b'D' && good::size_good(n) {
         return Act::Open(n);
     }
     Act::Bad
 }
 
 // Every other line orders an event.
+#[tactic(auto, unfolding(crate::specs::Line::event_of))]
 fn ordering(letter: u8, n: u64) -> Act
     ensures { result ≡ Reading.line_act Stage.Running letter n }
 {
-    let event = event_of(letter);
-    if event == 0 {
-        return Act::Bad;
-    }
-    Act::Order {
-        letter,
-        event,
-        port: n,
+    match event_of(letter) {
+        Some(event) => Act::Order {
+            letter,
+            event: event as u64,
+            port: n,
+        },
+        None => Act::Bad,
     }
 }
 
@@ -84,39 +57,32 @@ fn line_act(stage: Stage, letter: u8, n: u64) -> Act
     }
 }
 
-// What a run does with a byte. A few bytes decide that a line is malformed, however long it is.
+// What a run does with a byte. A few bytes decide that a line is malformed, however long it is: a number goes on with a digit where it is neither 0 nor of
+// three digits.
 pub fn act(stage: Stage, part: Part, b: u8) -> Act
     ensures { result ≡ Reading.act stage part b }
 {
     match part {
-        Part::Nothing => {
-            if b == NEWLINE {
-                return Act::Bad;
-            }
-            Act::Keep(Part::Letter(b))
-        }
-        Part::Letter(l) => {
-            if b == SPACE {
-                return Act::Keep(Part::Space(l));
-            }
-            Act::Bad
-        }
-        Part::Space(l) => {
-            if is_digit(b) {
-                return Act::Keep(Part::Number(l, value(b)));
-            }
-            Act::Bad
-        }
-        Part::Number(l, n) => {
-            if b == NEWLINE {
-                return line_act(stage, l, n);
-            }
-            if goes_on(n, b) {
-                let v = value(b);
-                return Act::Keep(Part::Number(l, 10 * n + v));
-            }
-            Act::Bad
-        }
+        Part::Nothing => match b {
+            b'\n' => Act::Bad,
+            _ => Act::Keep(Part::Letter(b)),
+        },
+        Part::Letter(l) => match b {
+            b' ' => Act::Keep(Part::Space(l)),
+            _ => Act::Bad,
+        },
+        Part::Space(l) => match b {
+            b'0'..=b'9' => Act::Keep(Part::Number(l, (b - b'0') as u64)),
+            _ => Act::Bad,
+        },
+        Part::Number(l, n) => match b {
+            b'\n' => line_act(stage, l, n),
+            b'0'..=b'9' if 0 < n && n < 100 => Act::Keep(Part::Number(
+                l,
+                10 * n + (b - b'0') as u64,
+            )),
+            _ => Act::Bad,
+        },
     }
 }
 
@@ -124,23 +90,7 @@ pub fn act(stage: Stage, part: Part, b: u8) -> Act
 pub fn live(stage: Stage) -> bool
     ensures { result ≡ Reading.live stage }
 {
-    match stage {
-        Stage::Opening => true,
-        Stage::Running => true,
-        Stage::Over => false,
-    }
-}
-
-// A line has begun.
-fn begun(part: Part) -> bool
-    ensures { result ≡ Reading.cut_off Stage.Running part }
-{
-    match part {
-        Part::Nothing => false,
-        Part::Letter(_) => true,
-        Part::Space(_) => true,
-        Part::Number(_, _) => true,
-    }
+    !matches!(stage, Stage::Over)
 }
 
 // The end of the input is malformed here: a line has begun, or the first is missing.
@@ -149,7 +99,7 @@ pub fn cut_off(stage: Stage, part: Part) -> bool
 {
     match stage {
         Stage::Opening => true,
-        Stage::Running => begun(part),
+        Stage::Running => !matches!(part, Part::Nothing),
         Stage::Over => false,
     }
 }

@@ -4,3 +4,4 @@ pub mod Listing
 pub mod Feed
 pub mod Chain
 pub mod Took
+pub mod Turn

@@ -1,7 +1,7 @@
 -- An order on what it can see, and the table put together again.
-use Rattle.std.specs.Prelude.{◌≡◌, Bool, true, false, ℕ, ◌%◌, eqb, set}
+use Rattle.std.specs.Prelude.{◌≡◌, Bool, true, false, ℕ, eqb, set, Ok, Err}
 use Rattle.std.proofs.Math.Path.{refl, ap}
-use Rattle.std.proofs.Common.{◌∙◌, le_trans, arith}
+use Rattle.std.proofs.Common.{◌∙◌, le_trans}
 use mathlib.Core.List.{List}
 use borrow.Author.Tests.{eq-eqb, ne_eqb, eqb-true, eqb-false}
 use Rattle.std.proofs.Math.Arith.{lt_of_le-ne}
@@ -11,17 +11,19 @@ use Rattle.model.specs.declared.Copies.{Copies}
 use Rattle.model.specs.declared.Shared.{Shared}
 use Rattle.model.specs.declared.Table.{Table}
 use Rattle.model.specs.declared.Touch.{Touch}
+use Rattle.model.specs.declared.Answer.{Answer}
 use Rattle.model.specs.Table.{table, no_port, port_at, copies_at, put_port}
-use Rattle.model.specs.Event.{number_of, answer_code, ordered, stepping}
-use Rattle.model.specs.Run.{code_of}
+use Rattle.model.specs.Event.{number_of, ordered, stepping}
 use Rattle.model.specs.Parts.Steps.{touch_of, home_of}
 use Rattle.model.specs.Paid.{paid_answer, paid_event}
 use Rattle.model.proofs.Laws.Mask.{within-lt}
 use Rattle.model.proofs.Laws.Cases.{unrefused-step}
 use Rattle.model.proofs.Laws.Kept.{room_fits}
+use Rattle.answers.specs.declared.Costs.{Costs}
+use Rattle.answers.specs.Verdict.{paid}
 use Rattle.lock.specs.declared.orders.Acted.{Acted}
-use Rattle.lock.specs.Parts.{view_on, stepped_on, kept, leaves, acted_on}
-use Rattle.lock.specs.Sight.{Sight, assembled, set_at, plain_code, refused, obeyed, moved}
+use Rattle.lock.specs.Parts.{costs, view_on, stepped_on, kept, acted_on}
+use Rattle.lock.specs.Sight.{Sight, set_at, joined, refused, obeyed, moved-table, moved-paid}
 use Rattle.lock.specs.Ready.{Passed}
 
 -- a step sees what it needs
@@ -37,21 +39,17 @@ sight-on s k e p q a x =
 
 -- the three ways of an order
 module _ (u : Touch) (s : Shared) (k e : ℕ) (p q : Port) (c : Copies) where
-  pub act-refused : (number_of (paid_answer s k e p) ≡ 0 → ⊥) → kept p s c (number_of (paid_answer s k e p)) ≡ acted_on u s k e p q c
+  pub act-refused : (number_of (paid_answer s k e p) ≡ 0 → ⊥) → kept p s c (Err (paid_answer s k e p)) ≡ acted_on u s k e p q c
   unfolding acted_on
   act-refused n = rw (ne_eqb (number_of (paid_answer s k e p)) 0 n)
 
-  pub act-ordered : number_of (paid_answer s k e p) ≡ 0 → (e ≡ 2 → ⊥) → kept (ordered e p) s c 0 ≡ acted_on u s k e p q c
+  pub act-ordered : number_of (paid_answer s k e p) ≡ 0 → (e ≡ 2 → ⊥) → kept (ordered e p) s c (Ok (costs 0 0)) ≡ acted_on u s k e p q c
   unfolding acted_on
   act-ordered z n = rw (eq-eqb (number_of (paid_answer s k e p)) 0 z, ne_eqb e 2 n)
 
-  pub act-stepped : number_of (paid_answer s k e p) ≡ 0 → e ≡ 2 → leaves (stepped_on u s k p q c) ≡ acted_on u s k e p q c
+  pub act-stepped : number_of (paid_answer s k e p) ≡ 0 → e ≡ 2 → stepped_on u s k p q c ≡ acted_on u s k e p q c
   unfolding acted_on
   act-stepped z n = rw (eq-eqb (number_of (paid_answer s k e p)) 0 z, eq-eqb e 2 n)
-
--- the table from what the order leaves, where j is the port that it would touch
-abbrev pub joined : Table → ℕ → ℕ → Acted → Table
-joined t k j l = table (set_at l.sets (set t.ports k l.own) j) (set t.copies j l.copies) l.shared
 
 abbrev pub acted : Table → ℕ → ℕ → Acted
 acted t k e = acted_on (touch_of t k) t.shared k e (port_at t k) (port_at t (home_of t k)) (copies_at t (home_of t k))
@@ -60,11 +58,15 @@ acted t k e = acted_on (touch_of t k) t.shared k e (port_at t k) (port_at t (hom
 pub rejoined : (t : Table) (k j : ℕ) (p : Port) → table (set_at false (set t.ports k p) j) (set t.copies j (copies_at t j)) t.shared ≡ put_port t k p
 rejoined t k j p = rw (set-get_or (set t.ports k p) j no_port, set-get_or t.copies j _)
 
+-- an order that is carried out is not refused
+ok-err : {c : Costs} {a : Answer} → Ok c ≡ Err a → ⊥
+ok-err e = cc
+
 -- what an order leaves, put together, is what the definitions say
 pub record Acts (t : Table) (k e : ℕ) : Type 0 where
-  pub code : (acted t k e).code ≡ code_of (paid_event t k e)
+  pub value : (acted t k e).paid ≡ paid (paid_event t k e)
   pub table : joined t k (home_of t k) (acted t k e) ≡ (paid_event t k e).table
-  pub refused : ((acted t k e).code % 256 ≡ 0 → ⊥) → t ≡ (paid_event t k e).table
+  pub refused : (a : Answer) → (acted t k e).paid ≡ Err a → t ≡ (paid_event t k e).table
 
 module _ (t : Table) (k e : ℕ) where
   abbrev number : ℕ
@@ -74,37 +76,35 @@ module _ (t : Table) (k e : ℕ) where
   j = home_of t k
 
   acts-refused : (number ≡ 0 → ⊥) → Acts t k e
-  unfolding code_of
+  unfolding paid
   acts-refused n =
       let a = act-refused (touch_of t k) t.shared k e (port_at t k) (port_at t j) (copies_at t j) n in
       let o = refused t k e n in
       record {
-        code = rw (← a, o, plain_code t.shared k e (port_at t k)) (omega arith);
+        value = rw (← a, o, ne_eqb number 0 n);
         table = rw (← a, o) (rejoined t k j (port_at t k) ∙ ap (λ (l : List Port). table l t.copies t.shared) (set-get_or t.ports k no_port));
-        refused = λ z. rw o;
+        refused = λ x z. rw o;
       }
 
   acts-ordered : number ≡ 0 → (e ≡ 2 → ⊥) → Acts t k e
-  unfolding code_of answer_code
+  unfolding paid
   acts-ordered z n =
       let a = act-ordered (touch_of t k) t.shared k e (port_at t k) (port_at t j) (copies_at t j) z n in
       let o = obeyed t k e z n in
       record {
-        code = rw (← a, o);
+        value = rw (← a, o);
         table = rw (← a, o) (rejoined t k j (ordered e (port_at t k)));
-        refused = λ q. absurd (q (rw (← a)));
+        refused = λ x q. absurd (ok-err (ap (λ (l : Acted). l.paid) a ∙ q));
       }
 
   acts-stepped : number ≡ 0 → e ≡ 2 → Acts t k e
-  unfolding code_of answer_code
+  unfolding stepped_on
   acts-stepped z n =
-      let l = stepped_on (touch_of t k) t.shared k (port_at t k) (port_at t j) (copies_at t j) in
       let a = act-stepped (touch_of t k) t.shared k e (port_at t k) (port_at t j) (copies_at t j) z n in
-      let o : assembled t k j l ≡ paid_event t k e = moved t k e z n j l refl refl in
       record {
-        code = rw (← a, ← o) (omega arith);
-        table = rw (← a, ← o);
-        refused = λ q. absurd (q (rw (← a) (omega arith)));
+        value = rw (← a) (moved-paid t k e z n);
+        table = rw (← a) (moved-table t k e z n);
+        refused = λ x q. absurd (ok-err (ap (λ (l : Acted). l.paid) a ∙ q));
       }
 
   pub acts : Acts t k e

@@ -1,5 +1,7 @@
 -- What an order at port k may count on, where what it answers before anything is changed is DONE.
-use Rattle.std.specs.Prelude.{◌≡◌, refl, Bool, true, false, ◌&&◌, ℕ, suc, ◌≤◌, ◌<◌, leb, ltb}
+use Rattle.std.specs.Prelude.{◌≡◌, refl, Bool, true, false, cond, ◌&&◌, ℕ, suc, ◌≤◌, ◌<◌, leb, ltb, eqb, Result, Ok, Err, ⊤}
+use borrow.Author.Tests.{eqb-true, eqb-false}
+use Rattle.model.specs.declared.Answer.{Answer}
 use Rattle.std.proofs.Common.{ap, arith, leb-true, leb-false, ltb-true, le-leb}
 use Rattle.std.proofs.Math.Bool.{and-eq-true_iff, and-false}
 use Rattle.std.proofs.Math.Arith.{lt_of_le-ne}
@@ -19,6 +21,7 @@ use Rattle.model.proofs.Laws.Mask.{within-lt}
 use Rattle.model.proofs.Laws.Cases.{unrefused-step}
 use Rattle.model.proofs.Laws.Kept.{room_fits}
 use Rattle.lock.specs.Sight.{Sight}
+use Rattle.answers.specs.Verdict as Verdict
 
 -- the tests that it has passed
 pub record Passed (s : Shared) (k e : ℕ) (p : Port) : Type 0 where
@@ -61,6 +64,26 @@ passed s k e p h = shares (leb 1 s.d && leb s.d room && within s.d s.active) ref
     shares : (b : Bool) → (leb 1 s.d && leb s.d room && within s.d s.active) ≡ b → Passed s k e p
     shares true x = ports x _ refl
     shares false x = absurd (some 0 (rw x at h))
+
+abbrev verdict : Bool → Answer → Result ⊤ Answer
+verdict b a = cond b (Ok tt) (Err a)
+
+-- what was answered, where nothing refuses and where something does
+pub passed-ok : (a : Answer) (u : ⊤) → Ok u ≡ Verdict.passed a → number_of a ≡ 0
+unfolding Verdict.passed
+passed-ok a u e = go (eqb (number_of a) 0) refl e
+  where
+    go : (b : Bool) → eqb (number_of a) 0 ≡ b → Ok u ≡ verdict b a → number_of a ≡ 0
+    go true q f = eqb-true _ _ q
+    go false q f = cc
+
+pub passed-err : (a b : Answer) → Err b ≡ Verdict.passed a → (b ≡ a) × (number_of a ≡ 0 → ⊥)
+unfolding Verdict.passed
+passed-err a b e = go (eqb (number_of a) 0) refl e
+  where
+    go : (x : Bool) → eqb (number_of a) 0 ≡ x → Err b ≡ verdict x a → (b ≡ a) × (number_of a ≡ 0 → ⊥)
+    go true q f = absurd cc
+    go false q f = (cc, eqb-false _ _ q)
 
 -- whatever port's record is looked at where there is no port k, the answer is the same
 pub any-record : (t : Table) (k e r : ℕ) → (k < room → r ≡ k) → paid_answer t.shared k e (port_at t r) ≡ paid_answer t.shared k e (port_at t k)

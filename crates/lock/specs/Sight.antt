@@ -7,9 +7,9 @@ use Rattle.model.specs.declared.Port.{Port}
 use Rattle.model.specs.declared.Shared.{Shared}
 use Rattle.model.specs.declared.Table.{Table}
 use Rattle.model.specs.declared.View.{View}
-use Rattle.lock.specs.declared.acts.Left.{Left}
+use Rattle.answers.specs.Verdict.{paid}
+use Rattle.lock.specs.declared.orders.Acted.{Acted}
 use Rattle.lock.specs.Parts.{stepped_on}
-use Rattle.model.specs.declared.Outcome.{Outcome}
 use Rattle.model.specs.declared.Answer.{Answer}
 use Rattle.model.specs.declared.Answer.TheVariants.{Done}
 use Rattle.model.specs.Table.{most, table, no_port, port_at, copies_at, put_port}
@@ -20,7 +20,7 @@ use Rattle.model.proofs.Laws.Ring.{next-any}
 use Rattle.model.proofs.Laws.Stepped.{carried-parts}
 use Rattle.model.specs.Points.{settled}
 use Rattle.model.specs.Good.{whole}
-use Rattle.model.specs.Cost.{outcome, free}
+use Rattle.model.specs.Cost.{free}
 use Rattle.model.specs.Step.{with_value}
 use Rattle.model.specs.Event.{number_of, fault_in, answer_code, first_of, refusals, ordered}
 use Rattle.model.specs.Parts.Moves.{sees}
@@ -60,13 +60,12 @@ ringed {v} s n r e =
     ∙ rw (ne_eqb v.active 0 n, mod-eq_of_lt (lt_of_lt_of_le s.seen s.ports))
     (next-any s.seen s.ports (pos_of_ne-zero n) s.bits)
 
--- the table and the costs from what the step leaves, where j is the port that it touched
+-- the table from what an order leaves, where j is the port that it would touch
 abbrev pub set_at : Bool → List Port → ℕ → List Port
 set_at b ps j = set ps j (with_value (cond b 1 (get_or ps j no_port).value) (get_or ps j no_port))
 
-abbrev pub assembled : Table → ℕ → ℕ → Left → Outcome
-assembled t k j l =
-    outcome (table (set_at l.sets (set t.ports k l.own) j) (set t.copies j l.copies) l.shared) l.cached l.distributed Done
+abbrev pub joined : Table → ℕ → ℕ → Acted → Table
+joined t k j l = table (set_at l.sets (set t.ports k l.own) j) (set t.copies j l.copies) l.shared
 
 -- a spin that is set, or left as it is
 set-at : (b : Bool) (ps : List Port) (j : ℕ) → set_at b ps j ≡ cond b (set ps j (with_value 1 (get_or ps j no_port))) ps
@@ -74,16 +73,21 @@ set-at true ps j = refl
 set-at false ps j = set-get_or ps j no_port
 
 module _ (t : Table) (k : ℕ) where
-  assembled-step : assembled t k (home_of t k)
-      (stepped_on (touch_of t k) t.shared k (port_at t k) (port_at t (home_of t k)) (copies_at t (home_of t k)))
-      ≡ stepped t k
+  abbrev pub step_left : Acted
+  step_left = stepped_on (touch_of t k) t.shared k (port_at t k) (port_at t (home_of t k)) (copies_at t (home_of t k))
+
+  table-stepped : joined t k (home_of t k) step_left ≡ (stepped t k).table
   unfolding stepped marked stepped_on charge_of move_of view_of
-  assembled-step =
+  table-stepped =
       rw
       (set-at
       (marks t k)
       (set t.ports k (settled (move_of t k).own))
       (home_of t k))
+
+  paid-stepped : step_left.paid ≡ paid (stepped t k)
+  unfolding stepped stepped_on charge_of move_of view_of paid
+  paid-stepped = refl
 
 -- what holds of DONE and of each refusal of a list holds of the first that applies
 abbrev pub Each : (Answer → Type 0) → List (Bool × Answer) → Type 0
@@ -116,8 +120,12 @@ module _ (t : Table) (k e : ℕ) where
     unfolding paid_event
     obeyed n = rw (carried-parts t k e, eq-eqb (number_of (paid_answer t.shared k e (port_at t k))) 0 z, ne_eqb e 2 n)
 
-    pub moved : e ≡ 2 → (j : ℕ) (l : Left) → j ≡ home_of t k → l ≡ stepped_on (touch_of t k) t.shared k (port_at t k) (port_at t j) (copies_at t j)
-        → assembled t k j l ≡ paid_event t k e
+    pub moved-table : e ≡ 2 → joined t k (home_of t k) (step_left t k) ≡ (paid_event t k e).table
     unfolding paid_event
-    moved s j l x y =
-        rw (carried-parts t k e, eq-eqb (number_of (paid_answer t.shared k e (port_at t k))) 0 z, eq-eqb e 2 s) (rw (y, x) (assembled-step t k))
+    moved-table s =
+        rw (carried-parts t k e, eq-eqb (number_of (paid_answer t.shared k e (port_at t k))) 0 z, eq-eqb e 2 s) (table-stepped t k)
+
+    pub moved-paid : e ≡ 2 → (step_left t k).paid ≡ paid (paid_event t k e)
+    unfolding paid_event
+    moved-paid s =
+        rw (carried-parts t k e, eq-eqb (number_of (paid_answer t.shared k e (port_at t k))) 0 z, eq-eqb e 2 s) (paid-stepped t k)

@@ -1,5 +1,5 @@
--- An event from one order: its answer and both costs from the one number that the order gives.
-use Rattle.std.specs.Prelude.{◌≡◌, Bool, true, false, cond, not, ◌∷◌, ℕ, ◌+◌, ◌*◌, ◌/◌, ◌%◌, ◌<◌, eqb, leb}
+-- An event from one order, and an outcome in one number.
+use Rattle.std.specs.Prelude.{◌≡◌, Bool, true, false, cond, ℕ, ◌+◌, ◌*◌, ◌/◌, ◌%◌, ◌<◌, eqb, Result, Ok, Err, None, Some}
 use Rattle.std.proofs.Math.Path.{refl, ap}
 use Rattle.std.proofs.Common.{sym, ◌∙◌, arith}
 use Rattle.model.specs.declared.Fault.{Fault}
@@ -8,47 +8,26 @@ use Rattle.model.specs.declared.Outcome.{Outcome}
 use Rattle.model.specs.declared.Answer.{Answer}
 use Rattle.model.specs.declared.Answer.TheVariants.{Done, BadTable, NoSuchPort, NoSuchEvent, Busy, Worn, NotInside, Idle, Inside, BadSize, ShortRoom, BadImage}
 use Rattle.model.specs.Table.{port_at, copies_at}
-use Rattle.model.specs.Cost.{free}
-use Rattle.model.specs.Event.{number_of, fault_in, answer_code, first_of, refusals, refusal, stepping, carried, event}
+use Rattle.model.specs.Cost.{outcome, free}
+use Rattle.model.specs.Event.{number_of, fault_in, answer_code, first_of, refusal, stepping, carried, event}
 use Rattle.model.specs.Good.{whole, good, bad_in}
 use Rattle.model.specs.Run.{code_of}
 use Rattle.model.specs.Paid.{paid_answer, paid_event}
 use Rattle.model.specs.Parts.Charges.{home}
-use Rattle.model.specs.Parts.Steps.{touch_of, stepped}
+use Rattle.model.specs.Parts.Steps.{touch_of, home_of, stepped}
 use Rattle.model.specs.Parts.Rules.{slot_of}
 use Rattle.model.proofs.Laws.Tests.{split}
 use Rattle.model.proofs.Laws.Stepped.{carried-parts}
-use Rattle.model.proofs.Laws.Faults.{place-good}
-use Rattle.model.proofs.Laws.Fees.{event-cost}
 use Rattle.model.proofs.Laws.Paid.{paid-event}
+use Rattle.rules.specs.Found.{found}
+use Rattle.rules.specs.Finding.{none-good, some-bad}
+use Rattle.answers.specs.declared.Costs.{Costs}
+use Rattle.answers.specs.Verdict.{paid}
+use Rattle.answers.specs.Verdict as Verdict
 use Rattle.lock.specs.declared.orders.Acted.{Acted}
-use Rattle.lock.specs.Parts.{kept}
-use Rattle.lock.specs.Sight.{first-each, plain-answer}
-use Rattle.lock.specs.Acted.{joined}
+use Rattle.lock.specs.Parts.{stepped_on, kept}
+use Rattle.lock.specs.Sight.{joined, plain-answer, moved-table, moved-paid}
 use Rattle.lock.specs.Placed.{acted_at, unchanged, placed}
-
--- the answer that a number stands for, with what is bad in a bad table
-unfoldable pub answer_of : ℕ → Fault → Answer
-answer_of n bad =
-    cond (eqb n 0)
-    Done
-    (cond (eqb n 1)
-    (BadTable bad)
-    (cond (eqb n 2)
-    NoSuchPort
-    (cond (eqb n 3)
-    NoSuchEvent
-    (cond (eqb n 4)
-    Busy
-    (cond (eqb n 5)
-    Worn
-    (cond (eqb n 6)
-    NotInside
-    (cond (eqb n 7)
-    Idle
-    (cond (eqb n 8)
-    Inside
-    (cond (eqb n 9) BadSize (cond (eqb n 10) ShortRoom BadImage))))))))))
 
 -- an answer's number fits one digit
 pub number_small : (a : Answer) → number_of a < 256
@@ -97,52 +76,72 @@ module _ (t : Table) (k e : ℕ) where
   pub event-code : good t ≡ true → code_of (event t k e) ≡ plain_of (event t k e)
   event-code g = rw (← paid-event t k e g) paid-code
 
-  -- what an event answers, by its number
-  refusal-named : answer_of (number_of (refusal t k e)) (bad_in t) ≡ refusal t k e
-  unfolding answer_of refusal refusals
-  refusal-named =
-      first-each (λ (a : Answer). answer_of (number_of a) (bad_in t) ≡ a) refl
-      ((not (good t), BadTable (bad_in t)) ∷ (leb t.shared.d k, NoSuchPort) ∷ refusals e (port_at t k))
-      (refl, (refl, (refl, (refl, (refl, (refl, (refl, (refl, tt))))))))
-
-  event-named : answer_of (number_of (event t k e).answer) (bad_in t) ≡ (event t k e).answer
-  unfolding answer_of event
-  event-named =
-      split (λ (o : Outcome). answer_of (number_of o.answer) (bad_in t) ≡ o.answer) (eqb (number_of (refusal t k e)) 0) _ _
-      (λ q. rw carried-done)
-      (λ q. refusal-named)
-
-  bad-event : good t ≡ false → event t k e ≡ free (BadTable (bad_in t)) t
+  pub bad-event : good t ≡ false → event t k e ≡ free (BadTable (bad_in t)) t
   unfolding event refusal first_of
   bad-event h = rw h
 
--- what an order on a table that was checked leaves, as an event
-pub one-event : (t : Table) (port e k j : ℕ) (bad : Fault) (l : Acted) (n : Answer) → bad ≡ bad_in t
-    → k ≡ slot_of port → j ≡ slot_of (home (touch_of t k).cell port (port_at t k).work)
-    → l ≡ cond (eqb bad.place 65535) (acted_at t port e k j) (kept (port_at t k) t.shared (copies_at t j) 1) → n ≡ answer_of (l.code % 256) bad
-    → record { table = joined t k j l; cached = l.code / 256 % 256; distributed = l.code / 65536; answer = n } ≡ event t port e
-one-event t port e k j bad l n g a b c r =
-    go (good t) refl
-    (c ∙ ap (λ (x : Bool). cond x (acted_at t port e k j) (kept (port_at t k) t.shared (copies_at t j) 1)) (ap (λ (f : Fault). eqb f.place 65535) g ∙ place-good t))
-  where
-    -- from its table and its code
-    coded : joined t k j l ≡ (event t port e).table → l.code ≡ plain_of (event t port e)
-        → record { table = joined t k j l; cached = l.code / 256 % 256; distributed = l.code / 65536; answer = n } ≡ event t port e
-    coded p q =
-        let d = decoded (event t port e) (omega (arith, (event-cost t port e).0)) in
-        let w : n ≡ (event t port e).answer = r ∙ rw (q, g, d.0) (event-named t port e) in
-        rw (w, p, q, d.1, d.2)
+-- an outcome from its table and what it says beside it
+abbrev pub outcome_of : Table → Result Costs Answer → Outcome
+outcome_of t (Ok c) = outcome t c.cached c.distributed Done
+outcome_of t (Err a) = free a t
 
-    go : (x : Bool) → good t ≡ x → l ≡ cond x (acted_at t port e k j) (kept (port_at t k) t.shared (copies_at t j) 1)
-        → record { table = joined t k j l; cached = l.code / 256 % 256; distributed = l.code / 65536; answer = n } ≡ event t port e
+module _ (t : Table) (k e : ℕ) where
+  -- an order is its table, and what it costs or why it is refused
+  pub order-whole : outcome_of (paid_event t k e).table (paid (paid_event t k e)) ≡ paid_event t k e
+  unfolding paid paid_event
+  order-whole = go (eqb (number_of (paid_answer t.shared k e (port_at t k))) 0) refl
+    where
+      go : (b : Bool) → eqb (number_of (paid_answer t.shared k e (port_at t k))) 0 ≡ b
+          → outcome_of (paid_event t k e).table (paid (paid_event t k e)) ≡ paid_event t k e
+      go true q = rw (q, carried-done t k e)
+      go false q = rw (q, q)
+
+  -- in one number
+  pub order-code : Verdict.code_of (paid (paid_event t k e)) ≡ code_of (paid_event t k e)
+  unfolding Verdict.code_of paid paid_event code_of answer_code
+  order-code = go (eqb (number_of (paid_answer t.shared k e (port_at t k))) 0) refl
+    where
+      go : (b : Bool) → eqb (number_of (paid_answer t.shared k e (port_at t k))) 0 ≡ b
+          → Verdict.code_of (paid (paid_event t k e)) ≡ code_of (paid_event t k e)
+      go true q = rw (q, carried-done t k e) (omega arith)
+      go false q = rw (q, q) (omega arith)
+
+  -- an event is refused where something is bad, and else is the order
+  pub event-refused : (f : Fault) → Some f ≡ found (bad_in t) → outcome_of t (Err (BadTable f)) ≡ event t k e
+  event-refused f h =
+      let b = some-bad t f h in
+      rw b.1 (sym (bad-event t k e b.0))
+
+  pub event-carried : None ≡ found (bad_in t) → outcome_of (paid_event t k e).table (paid (paid_event t k e)) ≡ event t k e
+  event-carried h = order-whole ∙ paid-event t k e (none-good t h)
+
+-- put together again
+pub outcome-ok : (t : Table) (r : Result Costs Answer) (o : Outcome) (c : Costs) → r ≡ Ok c → outcome_of t r ≡ o → outcome t c.cached c.distributed Done ≡ o
+outcome-ok t r o c e h = rw e at h
+
+pub outcome-err : (t : Table) (r : Result Costs Answer) (o : Outcome) (a : Answer) → r ≡ Err a → outcome_of t r ≡ o → free a t ≡ o
+outcome-err t r o a e h = rw e at h
+
+-- the outcome from what an order leaves, where j is the port that it would touch
+abbrev pub assembled : Table → ℕ → ℕ → Acted → Outcome
+assembled t k j l = outcome_of (joined t k j l) l.paid
+
+-- a step that nothing refuses
+pub moved : (t : Table) (k e : ℕ) → number_of (paid_answer t.shared k e (port_at t k)) ≡ 0 → e ≡ 2 → (j : ℕ) (l : Acted) → j ≡ home_of t k
+    → l ≡ stepped_on (touch_of t k) t.shared k (port_at t k) (port_at t j) (copies_at t j) → assembled t k j l ≡ paid_event t k e
+moved t k e z s j l x y = rw (y, x, moved-paid t k e z s, moved-table t k e z s) (order-whole t k e)
+
+-- what an order on a table that was checked leaves, as an event
+pub one-event : (t : Table) (port e k j : ℕ) (l : Acted) → k ≡ slot_of port → j ≡ slot_of (home (touch_of t k).cell port (port_at t k).work)
+    → l ≡ cond (good t) (acted_at t port e k j) (kept (port_at t k) t.shared (copies_at t j) (Err (BadTable (bad_in t))))
+    → assembled t k j l ≡ event t port e
+one-event t port e k j l a b = go (good t) refl
+  where
+    go : (x : Bool) → good t ≡ x → l ≡ cond x (acted_at t port e k j) (kept (port_at t k) t.shared (copies_at t j) (Err (BadTable (bad_in t))))
+        → assembled t k j l ≡ event t port e
     go true q f =
         let p = placed t port e k j a b in
-        let z = paid-event t port e q in
-        coded
-        (ap (joined t k j) f ∙ p.table ∙ ap (λ (x : Outcome). x.table) z)
-        (ap (λ (x : Acted). x.code) f ∙ p.code ∙ paid-code t port e ∙ ap plain_of z)
+        rw (f, p.value, p.table) (order-whole t port e ∙ paid-event t port e q)
     go false q f =
-        let z = bad-event t port e q in
-        coded
-        (ap (joined t k j) f ∙ unchanged t k j ∙ sym (ap (λ (x : Outcome). x.table) z))
-        (ap (λ (x : Acted). x.code) f ∙ sym (ap plain_of z ∙ omega arith))
+        let z = Err (BadTable (bad_in t)) in
+        rw (f, unchanged t k j z) (sym (bad-event t port e q))

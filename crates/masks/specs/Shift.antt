@@ -10,7 +10,7 @@ round-lt k = mod-lt k (lit< tt)
 pub one_shifted : (k : ℕ) → 1 * 2 ^ (k % 64) % 2 ^ 64 ≡ 2 ^ (k % 64)
 one_shifted k = shl_exact 1 (k % 64) 64 (lit< tt) (omega (arith, round-lt k)) ∙ one-mul (2 ^ (k % 64))
 
--- `u64::MAX - bit + 1`
+-- the complement of one bit, counted from the greatest number of 64 bits
 pub complement : (k : ℕ) → 18446744073709551615 - 2 ^ (k % 64) + 1 ≡ 2 ^ 64 - 2 ^ (k % 64)
 complement k = omega (arith, pow-lt {i = k % 64} {j = 64} (round-lt k))
 

@@ -5,15 +5,16 @@
 pub const ROOM: usize = 64;
 
 // The lock word: taken (0 or 1), owner and spin number. Its spin belongs to its owner.
-#[derive(Clone, Copy)]
+#[derive(Clone, Copy, PartialEq, Eq, Default)]
 pub struct Word {
     pub spin: u16,
+    // Stay numbers: an image may hold any, and rules say which are good (definition shared_rules).
     pub owner: u8,
     pub taken: u8,
 }
 
 // The working values of a port.
-#[derive(Clone, Copy)]
+#[derive(Clone, Copy, Default)]
 pub struct Work {
     pub own: u16,
     pub seenspin: u16,
@@ -23,11 +24,12 @@ pub struct Work {
 }
 
 // One port: its working values, the count of spins made, GO, point, STATUS, call-off flag, and the value of its latest spin.
-#[derive(Clone, Copy)]
+#[derive(Clone, Copy, Default)]
 pub struct Port {
     pub work: Work,
     pub made: u16,
     pub go: u16,
+    // Stay numbers, as an image may hold any of them: rules say which are good (definition field_rules).
     pub point: u8,
     pub status: u8,
     pub flag: u8,
@@ -35,7 +37,7 @@ pub struct Port {
 }
 
 // The ports with a current copy of a port's STATUS, GO and latest spin: bit j for port j.
-#[derive(Clone, Copy)]
+#[derive(Clone, Copy, Default)]
 pub struct Copies {
     pub status: u64,
     pub go: u64,
@@ -43,7 +45,7 @@ pub struct Copies {
 }
 
 // What all ports share: ACTIVE, the ports with a copy of ACTIVE and of the word, the number of ports, and the word.
-#[derive(Clone, Copy)]
+#[derive(Clone, Copy, Default)]
 pub struct Shared {
     pub active: u64,
     pub activecopies: u64,
@@ -55,6 +57,7 @@ pub struct Shared {
 // The table. Room for ports at or above d is all 0.
 #[derive(Clone, Copy)]
 pub struct Table {
+    // Stay two lists of fixed room: definitions port_at and copies_at name each, and the engine has no heap.
     pub ports: [Port; ROOM],
     pub copies: [Copies; ROOM],
     pub shared: Shared,
@@ -77,6 +80,7 @@ pub struct Move {
     pub own: Port,
     pub active: u64,
     pub word: Word,
+    // Stay flags: two facts of a step, with no value of their own (definitions of Parts/Moves).
     pub makes: bool,
     pub sets: bool,
 }
@@ -84,6 +88,7 @@ pub struct Move {
 // The words that a step can touch: its port's STATUS, GO and own spin, ACTIVE, the lock word, its candidate's GO and its seen owner's seen spin.
 #[derive(Clone, Copy)]
 pub enum Cell {
+    // Stays among the words: definitions give every point a touch, and `untouched` is one.
     Nothing,
     Status,
     Go,
@@ -96,6 +101,7 @@ pub enum Cell {
 
 #[derive(Clone, Copy)]
 pub enum Kind {
+    // Stays, as in Cell.
     Nothing,
     Read,
     Write,
@@ -128,8 +134,9 @@ pub struct Charge {
 }
 
 // What is bad in a table (request R-2): 1.0 to 1.4 by its kind, the port, and the byte of the image where the field begins.
-#[derive(Clone, Copy)]
+#[derive(Clone, Copy, PartialEq, Eq, Default)]
 pub struct Fault {
+    // Stays a number: definition Good.fault has it so, and C is given it.
     pub kind: u8,
     pub port: u8,
     pub place: u16,
@@ -138,6 +145,7 @@ pub struct Fault {
 // The answers of document 01, section 'Refusal numbers', in the order of their numbers.
 #[derive(Clone, Copy)]
 pub enum Answer {
+    // Stays among the refusals: document 01 numbers it with them (definitions number_of, first_of), and the theorems speak of it.
     Done,
     BadTable(Fault),
     NoSuchPort,
@@ -153,6 +161,7 @@ pub enum Answer {
 }
 
 // What an event answers: the table after it, the cached and the distributed cost, and the answer.
+// Stays a struct: a refusal gives the table and the costs too (theorem refused-nothing).
 #[derive(Clone, Copy)]
 pub struct Outcome {
     pub table: Table,
@@ -162,6 +171,7 @@ pub struct Outcome {
 }
 
 // What `fresh` and a run answer: a table, and DONE or a refusal.
+// Stays a struct: a refusal comes with a table (definitions fresh, run).
 #[derive(Clone, Copy)]
 pub struct Made {
     pub table: Table,

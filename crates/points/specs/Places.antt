@@ -1,16 +1,13 @@
 -- The tables by point as the code holds them: places as the bits of one number, touches as a list of numbers. Each agrees with its definition.
-use Rattle.std.specs.Prelude.{◌≡◌, refl, Bool, true, false, cond, ◌&&◌, List, [], ◌∷◌, ◌++◌, ℕ, zero, suc, ◌-◌, ◌%◌, ◌≤◌, ◌<◌, eqb, ltb, get_or, drop}
+use Rattle.std.specs.Prelude.{◌≡◌, refl, Bool, true, false, cond, ◌&&◌, List, [], ◌∷◌, ℕ, zero, suc, ◌-◌, ◌≤◌, ltb, get_or, drop}
 use Rattle.std.proofs.Common.{sym, ap, ◌∙◌, true≢false, ne_of_lt, lt_of_lt_of_le, add-sub_of_le, arith, get_or-drop, ltb-true, ltb-false, ne_eqb}
 use Rattle.std.specs.Bool.{beq}
 use Rattle.std.proofs.Math.Bool.{and-false}
-use Rattle.std.proofs.Math.ListN.{get_or-append, get_or-map}
+use Rattle.std.proofs.Math.ListN.{get_or-append, get_or-map, get_or-eq_default}
 use Rattle.std.proofs.lemmas.Bool.{lt-leb}
 use Rattle.model.specs.declared.Touch.{Touch}
-use Rattle.model.specs.declared.Cell.{Cell}
-use Rattle.model.specs.declared.Cell.TheVariants.{Nothing, Status, Go, Spin, Active, Lock, CandidateGo, SeenSpin}
-use Rattle.model.specs.declared.Kind.{Kind}
+use Rattle.model.specs.declared.Cell.TheVariants.{Status, Go, Spin, Active, Lock, CandidateGo, SeenSpin}
 use Rattle.model.specs.declared.Kind.TheVariants.{Read, Write, Add, Swap}
-use Rattle.model.specs.declared.Kind.TheVariants as Kinds
 use Rattle.model.proofs.Laws.Tests.{every-below}
 use Rattle.model.specs.Mask.{stands}
 use Rattle.model.specs.Points.{none, point_of, one_of, own_place, seen_place, candidate_place, candidate_spin_place, points}
@@ -74,34 +71,13 @@ pub candidate-spin-table : (n : ℕ) → (ltb n 46 && stands 8804691345408 n) �
 unfolding candidate_spin_place every_below stands all46
 candidate-spin-table = table 8804691345408 candidate_spin_place refl (λ n h. beyond (23 ∷ 33 ∷ 43 ∷ []) n h refl)
 
--- the word and the kind of access that an entry of the code's table of touches stands for
-unfoldable pub cell_of : ℕ → Cell
-cell_of n =
-    cond (eqb n 1) Status
-    (cond (eqb n 2) Go
-    (cond (eqb n 3) Spin
-    (cond (eqb n 4) Active (cond (eqb n 5) Lock (cond (eqb n 6) CandidateGo (cond (eqb n 7) SeenSpin Nothing))))))
-
-unfoldable pub kind_of : ℕ → Kind
-kind_of n = cond (eqb n 8) Read (cond (eqb n 16) Write (cond (eqb n 24) Add (cond (eqb n 32) Swap Kinds.Nothing)))
-
-abbrev pub entry_of : ℕ → Touch
-entry_of n = touch (kind_of (n - n % 8)) (cell_of (n % 8))
-
 -- the code's table of touches
-abbrev pub entries : List ℕ
-entries =
-    0 ∷ 9 ∷ 0 ∷ 10 ∷ 18 ∷ 12 ∷ 28 ∷ 0 ∷ 11 ∷ 0 ∷ 17 ∷ 0 ∷ 17 ∷ 17 ∷ 12 ∷ 28 ∷ 10 ∷ 37 ∷ 18 ∷ 17
-    ∷ 13 ∷ 12 ∷ 14 ∷ 37 ∷ 13 ∷ 23 ∷ 0 ∷ 0 ∷ 0 ∷ 0
-    ∷ 13 ∷ 12 ∷ 14 ∷ 37 ∷ 13 ∷ 23 ∷ 0 ∷ 0 ∷ 0 ∷ 0
-    ∷ 13 ∷ 12 ∷ 14 ∷ 37 ∷ 13 ∷ 23 ∷ []
-
-pub touch-table : (n : ℕ) → n < 46 → entry_of (get_or entries n 0) ≡ touch_at (point_of n)
-unfolding touch_at cell_of kind_of
-touch-table n h =
-    ap entry_of (sym (get_or-append entries (0 ∷ 0 ∷ 0 ∷ 0 ∷ []) 0 n h))
-    ∙ sym (get_or-map entry_of (entries ++ (0 ∷ 0 ∷ 0 ∷ 0 ∷ [])) n 0)
-    ∙ get_or-map touch_at points n none
+abbrev pub touches : List Touch
+touches =
+    untouched ∷ touch Read Status ∷ untouched ∷ touch Read Go ∷ touch Write Go ∷ touch Read Active ∷ touch Add Active ∷ untouched ∷ touch Read Spin ∷ untouched ∷ touch Write Status ∷ untouched ∷ touch Write Status ∷ touch Write Status ∷ touch Read Active ∷ touch Add Active ∷ touch Read Go ∷ touch Swap Lock ∷ touch Write Go ∷ touch Write Status
+    ∷ touch Read Lock ∷ touch Read Active ∷ touch Read CandidateGo ∷ touch Swap Lock ∷ touch Read Lock ∷ touch Write SeenSpin ∷ untouched ∷ untouched ∷ untouched ∷ untouched
+    ∷ touch Read Lock ∷ touch Read Active ∷ touch Read CandidateGo ∷ touch Swap Lock ∷ touch Read Lock ∷ touch Write SeenSpin ∷ untouched ∷ untouched ∷ untouched ∷ untouched
+    ∷ touch Read Lock ∷ touch Read Active ∷ touch Read CandidateGo ∷ touch Swap Lock ∷ touch Read Lock ∷ touch Write SeenSpin ∷ []
 
 -- from 46 on there is no point
 pub nones : (n : ℕ) → get_or (none ∷ none ∷ none ∷ none ∷ []) n none ≡ none
@@ -121,3 +97,20 @@ pointless n h = from 46 n h ∙ nones (n - 46)
 pub touch-beyond : (n : ℕ) → 46 ≤ n → touch_at (point_of n) ≡ untouched
 unfolding touch_at
 touch-beyond n h = ap touch_at (pointless n h)
+
+-- the table of touches says of every number what its point touches
+pub touch-table : (n : ℕ) → get_or touches n untouched ≡ touch_at (point_of n)
+unfolding touch_at
+touch-table n = go (ltb n 46) refl
+  where
+    nothing : List Touch
+    nothing = untouched ∷ untouched ∷ untouched ∷ untouched ∷ []
+
+    go : (b : Bool) → ltb n 46 ≡ b → get_or touches n untouched ≡ touch_at (point_of n)
+    go true e = sym (get_or-append touches nothing untouched n (ltb-true n 46 e)) ∙ get_or-map touch_at points n none
+    go false e = let h = ltb-false n 46 e in get_or-eq_default touches untouched h ∙ sym (touch-beyond n h)
+
+-- what is kept of a working value, by its two cases
+pub kept : {A : Type 0} (place : Bool) (r x z : A) → (place ≡ true → r ≡ x) → (place ≡ false → r ≡ z) → r ≡ cond place x z
+kept true r x z f g = f refl
+kept false r x z f g = g refl

@@ -1,8 +1,7 @@
 // The tables by point: where each working value has its place, and which word a point touches and how.
-ghost use Rattle.std.specs.Prelude.{◌≡◌, cond, ◌&&◌, ltb};
+ghost use Rattle.std.specs.Prelude.{◌≡◌, ◌&&◌, ltb, IsTrue, IsFalse};
 ghost use Rattle.model.specs.Mask.{stands};
 ghost use Rattle.model.specs.Points as Points;
-ghost use Rattle.points.specs.Places.{cell_of, kind_of};
 ghost use Rattle.model.specs.Parts.Charges as Charges;
 
 use model::{Cell, Kind, Port, Touch, Work};
@@ -19,146 +18,139 @@ pub const CANDIDATE: u64 = 12 << 20 | 12 << 30 | 12 << 40;
 
 pub const CANDIDATE_SPIN: u64 = 8 << 20 | 8 << 30 | 8 << 40;
 
-// The words that a step can touch, and the kinds of access, as numbers that a point's entry is the sum of.
-const STATUS: u8 = 1;
+// The ways in which a point touches a word.
+// Stays a touch of nothing where an Option would have None: definition Charges.touch_at has it so.
+const UNTOUCHED: Touch = Touch {
+    cell: Cell::Nothing,
+    kind: Kind::Nothing,
+};
 
-const GO: u8 = 2;
+const READ_STATUS: Touch = Touch {
+    cell: Cell::Status,
+    kind: Kind::Read,
+};
 
-const SPIN: u8 = 3;
+const READ_GO: Touch = Touch {
+    cell: Cell::Go,
+    kind: Kind::Read,
+};
 
-const ACTIVE: u8 = 4;
+const WRITE_GO: Touch = Touch {
+    cell: Cell::Go,
+    kind: Kind::Write,
+};
 
-const LOCK: u8 = 5;
+const READ_ACTIVE: Touch = Touch {
+    cell: Cell::Active,
+    kind: Kind::Read,
+};
 
-const CANDIDATE_GO: u8 = 6;
+const ADD_ACTIVE: Touch = Touch {
+    cell: Cell::Active,
+    kind: Kind::Add,
+};
 
-const SEEN_SPIN: u8 = 7;
+const READ_SPIN: Touch = Touch {
+    cell: Cell::Spin,
+    kind: Kind::Read,
+};
 
-const READ: u8 = 8;
+const WRITE_STATUS: Touch = Touch {
+    cell: Cell::Status,
+    kind: Kind::Write,
+};
 
-const WRITE: u8 = 16;
+const SWAP_LOCK: Touch = Touch {
+    cell: Cell::Lock,
+    kind: Kind::Swap,
+};
 
-const ADD: u8 = 24;
+const READ_LOCK: Touch = Touch {
+    cell: Cell::Lock,
+    kind: Kind::Read,
+};
 
-const SWAP: u8 = 32;
+const READ_CANDIDATE_GO: Touch = Touch {
+    cell: Cell::CandidateGo,
+    kind: Kind::Read,
+};
 
-// For every point which word it touches and how: 0 for none.
-const TOUCHES: [u8; 46] = [
-    0,
-    READ + STATUS,
-    0,
-    READ + GO,
-    WRITE + GO,
-    READ + ACTIVE,
-    ADD + ACTIVE,
-    0,
-    READ + SPIN,
-    0,
-    WRITE + STATUS,
-    0,
-    WRITE + STATUS,
-    WRITE + STATUS,
-    READ + ACTIVE,
-    ADD + ACTIVE,
-    READ + GO,
-    SWAP + LOCK,
-    WRITE + GO,
-    WRITE + STATUS,
-    READ + LOCK,
-    READ + ACTIVE,
-    READ + CANDIDATE_GO,
-    SWAP + LOCK,
-    READ + LOCK,
-    WRITE + SEEN_SPIN,
-    0,
-    0,
-    0,
-    0,
-    READ + LOCK,
-    READ + ACTIVE,
-    READ + CANDIDATE_GO,
-    SWAP + LOCK,
-    READ + LOCK,
-    WRITE + SEEN_SPIN,
-    0,
-    0,
-    0,
-    0,
-    READ + LOCK,
-    READ + ACTIVE,
-    READ + CANDIDATE_GO,
-    SWAP + LOCK,
-    READ + LOCK,
-    WRITE + SEEN_SPIN,
+const WRITE_SEEN_SPIN: Touch = Touch {
+    cell: Cell::SeenSpin,
+    kind: Kind::Write,
+};
+
+// For every point which word it touches and how.
+const TOUCHES: [Touch; 46] = [
+    UNTOUCHED,
+    READ_STATUS,
+    UNTOUCHED,
+    READ_GO,
+    WRITE_GO,
+    READ_ACTIVE,
+    ADD_ACTIVE,
+    UNTOUCHED,
+    READ_SPIN,
+    UNTOUCHED,
+    WRITE_STATUS,
+    UNTOUCHED,
+    WRITE_STATUS,
+    WRITE_STATUS,
+    READ_ACTIVE,
+    ADD_ACTIVE,
+    READ_GO,
+    SWAP_LOCK,
+    WRITE_GO,
+    WRITE_STATUS,
+    READ_LOCK,
+    READ_ACTIVE,
+    READ_CANDIDATE_GO,
+    SWAP_LOCK,
+    READ_LOCK,
+    WRITE_SEEN_SPIN,
+    UNTOUCHED,
+    UNTOUCHED,
+    UNTOUCHED,
+    UNTOUCHED,
+    READ_LOCK,
+    READ_ACTIVE,
+    READ_CANDIDATE_GO,
+    SWAP_LOCK,
+    READ_LOCK,
+    WRITE_SEEN_SPIN,
+    UNTOUCHED,
+    UNTOUCHED,
+    UNTOUCHED,
+    UNTOUCHED,
+    READ_LOCK,
+    READ_ACTIVE,
+    READ_CANDIDATE_GO,
+    SWAP_LOCK,
+    READ_LOCK,
+    WRITE_SEEN_SPIN,
 ];
-
-fn cell_of(n: u8) -> Cell
-    ensures { result ≡ cell_of n }
-{
-    match n {
-        STATUS => Cell::Status,
-        GO => Cell::Go,
-        SPIN => Cell::Spin,
-        ACTIVE => Cell::Active,
-        LOCK => Cell::Lock,
-        CANDIDATE_GO => Cell::CandidateGo,
-        SEEN_SPIN => Cell::SeenSpin,
-        _ => Cell::Nothing,
-    }
-}
-
-fn kind_of(n: u8) -> Kind
-    ensures { result ≡ kind_of n }
-{
-    match n {
-        READ => Kind::Read,
-        WRITE => Kind::Write,
-        ADD => Kind::Add,
-        SWAP => Kind::Swap,
-        _ => Kind::Nothing,
-    }
-}
 
 // Which word point n touches, and how.
 pub fn touch_at(n: u8) -> Touch
     ensures { result ≡ Charges.touch_at (Points.point_of n) }
 {
-    if n < POINTS {
-        let entry = TOUCHES[n as usize];
-        let word = entry % READ;
-        Touch {
-            cell: cell_of(word),
-            kind: kind_of(entry - word),
-        }
-    } else {
-        Touch {
-            cell: Cell::Nothing,
-            kind: Kind::Nothing,
-        }
-    }
+    TOUCHES.get(n as usize).copied().unwrap_or(UNTOUCHED)
 }
 
 // Bit n of a table of points stands.
+#[tactic(auto, unfolding(model::specs::Mask::stands))]
 pub fn has(places: u64, n: u8) -> bool
     ensures { result ≡ (ltb n 46 && stands places n) }
 {
-    if n < POINTS {
-        (places >> n) % 2 == 1
-    } else {
-        false
-    }
+    n < POINTS && (places >> n) % 2 == 1
 }
 
-fn kept16(place: bool, x: u16) -> u16
-    ensures { result ≡ cond place x 0 }
+// What is kept of a working value: 0 where it has no place.
+fn kept<T: Copy + Default>(place: bool, x: T) -> T
+    ensures kept { IsTrue place → result ≡ x }
+    ensures gone { IsFalse place → T.is_default result }
 {
-    if place { x } else { 0 }
-}
-
-fn kept8(place: bool, x: u8) -> u8
-    ensures { result ≡ cond place x 0 }
-{
-    if place { x } else { 0 }
+    if place { x } else { T::default() }
 }
 
 // The port with every working value 0 that has no place at its point.
@@ -168,13 +160,11 @@ pub fn settled(p: Port) -> Port
     let n = p.point;
     let seen = has(SEEN, n);
     let work = Work {
-        own: kept16(has(OWN, n), p.work.own),
-        seenspin: kept16(seen, p.work.seenspin),
-        candidatespin: kept16(has(CANDIDATE_SPIN, n), p.work.candidatespin),
-        seenowner: kept8(seen, p.work.seenowner),
-        candidate: kept8(has(CANDIDATE, n), p.work.candidate),
+        own: kept(has(OWN, n), p.work.own),
+        seenspin: kept(seen, p.work.seenspin),
+        candidatespin: kept(has(CANDIDATE_SPIN, n), p.work.candidatespin),
+        seenowner: kept(seen, p.work.seenowner),
+        candidate: kept(has(CANDIDATE, n), p.work.candidate),
     };
-    let mut q = p;
-    q.work = work;
-    q
+    Port { work, ..p }
 }

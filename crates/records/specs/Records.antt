@@ -1,5 +1,5 @@
 -- Records as the functions of this crate read and write them, where the bytes may end before one: who reads images needs none of it.
-use Rattle.std.specs.Prelude.{cond, List, [], ℕ, ◌+◌, leb, length, drop, replicate}
+use Rattle.std.specs.Prelude.{Option, Some, None, cond, List, [], ℕ, ◌+◌, eqb, leb, length, drop, replicate}
 use Rattle.std.proofs.lemmas.List.Edits.{sets}
 use Rattle.model.specs.Bytes.{sum, pack, unpack}
 use Rattle.model.specs.Layout.{d_in, is_image}
@@ -19,3 +19,7 @@ filled n vs = sets (replicate n 0) 0 vs
 -- D of an image, and 0 of bytes that are none
 unfoldable pub ports_in : List ℕ → ℕ
 ports_in bs = cond (is_image bs) (d_in bs) 0
+
+-- the same as an option: none where it is 0
+unfoldable pub some_ports : ℕ → Option ℕ
+some_ports d = cond (eqb d 0) None (Some d)

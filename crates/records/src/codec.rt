@@ -1,108 +1,88 @@
 // Numbers and records in bytes, little end first, at widths that the caller gives.
-ghost use Rattle.std.specs.Prelude.{◌≡◌, true, ◌+◌, ◌≤◌, ◌<◌, leb, length, take, drop};
+ghost use Rattle.std.specs.Prelude.{◌≡◌, ◌+◌, ◌≤◌, leb, length};
 ghost use Rattle.std.proofs.lemmas.List.Edits.{sets};
 ghost use Rattle.model.specs.Bytes.{little, value, sum, pack, unpack};
-ghost use Rattle.records.specs.Records.{there, put_at};
-ghost use Rattle.records.specs.Laws.Rows.{same, narrow};
+ghost use Rattle.records.specs.Records.{there, put_at, filled};
 
-pub fn wide(x: u8) -> u64
-    ensures { result ≡ x }
-{
-    x as u64
-}
+use layout::Form;
 
-// Puts v in w bytes at a place.
-fn put(room: &mut [u8], at: usize, w: usize, v: u64)
-    requires { at + w ≤ length room.old }
-    ensures { room.new ≡ sets room.old at (little w v) }
+// Puts v in the bytes of a field: the compiler makes one store of two, and of eight.
+// Stays cut by `%`, as in layout.
+fn put(field: &mut [u8], v: u64)
+    ensures { field.new ≡ little (length field.old) v }
 {
-    let mut x = v;
-    let mut j: usize = 0;
-    while j < w {
-        room[at + j] = (x % 256) as u8;
-        x = x / 256;
-        j += 1;
+    match field.len() {
+        2 => field.copy_from_slice(&((v % 65536) as u16).to_le_bytes()),
+        8 => field.copy_from_slice(&v.to_le_bytes()),
+        _ => put_any(field, v),
     }
 }
 
-// The number that two, four and eight bytes at a place stand for: the compiler makes one load of each.
-fn get_two(bytes: &[u8], at: usize) -> u64
-    requires { at + 2 ≤ length bytes.now }
-    ensures { (result ≡ value (take 2 (drop at bytes.now))) × (result < 65536) }
+// The same, byte by byte.
+#[tactic(auto, unfolding(model::specs::Bytes::little))]
+fn put_any(field: &mut [u8], v: u64)
+    ensures { field.new ≡ little (length field.old) v }
 {
-    wide(bytes[at]) + 256 * wide(bytes[at + 1])
+    let mut x = v;
+    for b in field.iter_mut() {
+        *b = (x % 256) as u8;
+        x /= 256;
+    }
 }
 
-fn get_four(bytes: &[u8], at: usize) -> u64
-    requires { at + 4 ≤ length bytes.now }
-    ensures { (result ≡ value (take 4 (drop at bytes.now))) × (result < 4294967296) }
+// The number that the bytes of a field stand for: the compiler makes one load of two, and of eight.
+fn get(field: &[u8]) -> u64
+    requires { length field.now ≤ 8 }
+    ensures { result ≡ value field.now }
 {
-    get_two(bytes, at) + 65536 * get_two(bytes, at + 2)
+    match field {
+        [a, b] => u64::from(u16::from_le_bytes([*a, *b])),
+        [a, b, c, d, e, f, g, h] => u64::from_le_bytes([*a, *b, *c, *d, *e, *f, *g, *h]),
+        _ => get_any(field),
+    }
 }
 
-fn get_eight(bytes: &[u8], at: usize) -> u64
-    requires { at + 8 ≤ length bytes.now }
-    ensures { result ≡ value (take 8 (drop at bytes.now)) }
+// The same, byte by byte.
+fn get_any(field: &[u8]) -> u64
+    requires { length field.now ≤ 8 }
+    ensures { result ≡ value field.now }
 {
-    get_four(bytes, at) + 4294967296 * get_four(bytes, at + 4)
-}
-
-// The number that w bytes at a place stand for, byte by byte.
-fn get_any(bytes: &[u8], at: usize, w: usize) -> u64
-    requires { (at + w ≤ length bytes.now) × (w ≤ 8) }
-    ensures { result ≡ value (take w (drop at bytes.now)) }
-{
-    let mut x: u64 = 0;
-    let mut j = w;
-    while 0 < j {
-        j -= 1;
-        x = wide(bytes[at + j]) + 256 * x;
+    let mut x = 0;
+    for b in field.iter().rev() {
+        x = u64::from(*b) + 256 * x;
     }
     x
 }
 
-// The number that w bytes at a place stand for.
-fn get(bytes: &[u8], at: usize, w: usize) -> u64
-    requires { (at + w ≤ length bytes.now) × (w ≤ 8) }
-    ensures { result ≡ value (take w (drop at bytes.now)) }
-{
-    if w == 2 {
-        return get_two(bytes, at);
-    }
-    if w == 8 {
-        return get_eight(bytes, at);
-    }
-    get_any(bytes, at, w)
-}
-
-// Puts a record at a place.
-fn put_row(room: &mut [u8], at: usize, widths: &[usize], values: &[u64])
-    requires { (length widths.now ≤ length values.now) × (at + sum widths.now ≤ length room.old) }
+// Puts a record at a place. Inlined, as all that goes over a record's fields, so that its widths are known and there is no loop.
+// Stays a place that moves on: no plainer by split_at_mut, which would lend the room anew at each turn.
+#[tactic(auto, unfolding(model::specs::Bytes::sum))]
+#[inline(always)]
+fn put_row<const N: usize>(room: &mut [u8], at: usize, widths: &[usize; N], values: &[u64; N])
+    requires { at + sum widths.now ≤ length room.old }
     ensures { room.new ≡ sets room.old at (pack widths.now values.now) }
 {
     let mut i = at;
-    let mut j: usize = 0;
-    while j < widths.len() {
-        let w = widths[j];
-        put(room, i, w, values[j]);
-        i += w;
-        j += 1;
+    for (w, v) in widths.iter().zip(values) {
+        put(&mut room[i..i + *w], *v);
+        i += *w;
     }
 }
 
-// Fills the start of `values` with those of the record at a place.
-pub fn get_row(bytes: &[u8], at: usize, widths: &[usize], values: &mut [u64])
-    requires { (narrow widths.now ≡ true) × (length widths.now ≤ length values.old) × (at + sum widths.now ≤ length bytes.now) }
-    ensures { values.new ≡ sets values.old 0 (unpack widths.now (drop at bytes.now)) }
+// The values of the record that the bytes begin with.
+#[inline(always)]
+pub fn get_row<const N: usize>(bytes: &[u8], form: &Form<N>) -> [u64; N]
+    requires { sum form.now.widths ≤ length bytes.now }
+    ensures { result ≡ unpack form.now.widths bytes.now }
 {
-    let mut i = at;
-    let mut j: usize = 0;
-    while j < widths.len() {
-        let w = widths[j];
-        values[j] = get(bytes, i, w);
-        i += w;
-        j += 1;
+    let mut values = [0; N];
+    let mut rest = bytes;
+    for (i, w) in form.widths.iter().enumerate() {
+        let (field, after) = rest.split_at(*w);
+        values[i] = get(field);
+        rest = after;
     }
+    values
 }
 
 // A record of so many bytes at a place lies within so many.
@@ -115,35 +95,25 @@ fn inside(bytes: usize, at: usize, long: usize) -> bool
     at <= bytes - long
 }
 
-// The same where the bytes may end before the record: then nothing is filled, and nothing put.
-pub fn row_in(bytes: &[u8], at: usize, long: usize, widths: &[usize], values: &mut [u64])
-    requires { (narrow widths.now ≡ true) × (length widths.now ≤ length values.old) × (long ≡ sum widths.now) }
-    ensures { values.new ≡ sets values.old 0 (there widths.now at bytes.now) }
+// The values of the record at a place; zeros where the bytes end before it.
+#[tactic(auto, unfolding(crate::specs::Records::there, crate::specs::Records::filled))]
+#[inline(always)]
+pub fn row_in<const N: usize>(bytes: &[u8], at: usize, form: &Form<N>) -> [u64; N]
+    ensures { result ≡ filled N (there form.now.widths at bytes.now) }
 {
-    if inside(bytes.len(), at, long) {
-        get_row(bytes, at, widths, values);
+    if !inside(bytes.len(), at, form.size) {
+        return [0; N];
     }
+    get_row(&bytes[at..], form)
 }
 
-pub fn put_in(room: &mut [u8], at: usize, long: usize, widths: &[usize], values: &[u64])
-    requires { (length widths.now ≤ length values.now) × (long ≡ sum widths.now) }
-    ensures { room.new ≡ put_at widths.now values.now at room.old }
+// Puts a record at a place; where the bytes end before it they stay as they are.
+#[tactic(auto, unfolding(crate::specs::Records::put_at))]
+#[inline(always)]
+pub fn put_in<const N: usize>(room: &mut [u8], at: usize, form: &Form<N>, values: &[u64; N])
+    ensures { room.new ≡ put_at form.now.widths values.now at room.old }
 {
-    if inside(room.len(), at, long) {
-        put_row(room, at, widths, values);
+    if inside(room.len(), at, form.size) {
+        put_row(room, at, &form.widths, values);
     }
-}
-
-// Two lists of numbers are the same.
-pub fn same(a: &[u64], b: &[u64]) -> bool
-    requires { length a.now ≡ length b.now }
-    ensures { result ≡ same a.now b.now }
-{
-    let mut ok = true;
-    let mut i: usize = 0;
-    while i < a.len() {
-        ok = ok & (a[i] == b[i]);
-        i += 1;
-    }
-    ok
 }

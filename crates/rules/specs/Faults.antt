@@ -1,23 +1,25 @@
 -- What is bad, as the code looks for it.
-use Rattle.std.specs.Prelude.{◌≡◌, refl, Bool, true, false, cond, not, ◌&&◌, ◌||◌, ℕ, ◌+◌, ◌*◌, eqb, ltb, take}
+use Rattle.std.specs.Prelude.{◌≡◌, refl, Bool, true, false, cond, not, ◌&&◌, ◌||◌, ℕ, ◌+◌, ◌*◌, eqb, ltb, take, drop}
 use Rattle.std.proofs.Common.{sym, ap, ◌∙◌, arith}
 use Rattle.std.proofs.Math.Bool.{or-false, or_assoc}
 use Rattle.std.proofs.lemmas.Bool.{false≢true}
 use mathlib.Core.List.{List, [], ◌∷◌, ◌++◌, foldl}
 use Rattle.model.specs.declared.Fault.{Fault}
+use Rattle.model.specs.declared.Shared.{Shared}
+use Rattle.model.specs.Table.{size_good}
 use Rattle.model.specs.Points.{one_of}
 use Rattle.model.specs.Bytes.{sum}
 use Rattle.model.specs.Layout.{port_widths, set_width, port_place}
-use Rattle.model.specs.Good.{Rule, implies, fault, whole, spin_field, nowhere, lower}
+use Rattle.model.specs.Good.{Rule, implies, fault, whole, spin_field, shared_rules, nowhere, lower}
 use Rattle.model.proofs.Laws.Faults.{bad-append}
 
 -- the field that a spin number of port k is charged to, by the bytes before it
 unfoldable pub spin_fault : ℕ → ℕ → ℕ → Fault
 spin_fault k j before = cond (ltb k j) (fault 2 j (port_place j + 4)) (fault 3 k (port_place k + before))
 
--- what is bad after a rule, put in other words
-pub lowered : {f g x y r : Fault} {a b : Bool} → f ≡ g → r ≡ lower f (a, x) → a ≡ b → x ≡ y → r ≡ lower g (b, y)
-lowered p e q s = e ∙ rw (p, q, s)
+-- a list of rules, put in other words
+pub ruled : {a b : Bool} {x y : Fault} {r s : List Rule} → a ≡ b → x ≡ y → r ≡ s → ((a, x) ∷ r) ≡ ((b, y) ∷ s)
+ruled p q e = rw (p, q, e)
 
 -- the places of copy sets, counted by sets
 pub first : (d n : ℕ) → n + 0 * set_width d ≡ n + 0
@@ -52,6 +54,19 @@ unfolding lower
 sound-start true true e = refl
 sound-start true false e = absurd (false≢true e)
 sound-start false b e = absurd (false≢true e)
+
+-- a fault of zeros is that of the table as a whole; and one past every image is nowhere
+pub zeros : (f : Fault) → (f.kind ≡ 0) × ((f.port ≡ 0) × (f.place ≡ 0)) → f ≡ whole
+zeros f h =
+    ap (λ (n : ℕ). fault n f.port f.place) h.0
+    ∙ ap (λ (n : ℕ). fault 0 n f.place) h.1.0
+    ∙ ap (fault 0 0) h.1.1
+
+-- the rules after those for the table as a whole, where these hold
+pub after-start : (empty : Bool) (s : Shared) (n : ℕ) → (size_good s.d && empty) ≡ true
+    → foldl lower nowhere (drop 2 (shared_rules true s n)) ≡ foldl lower nowhere (shared_rules empty s n)
+unfolding shared_rules
+after-start empty s n e = ap (λ (f : Fault). foldl lower f (drop 2 (shared_rules true s n))) (sound-start (size_good s.d) empty e)
 
 -- three lists one after the other
 pub in_parts : (f a b r : Fault) (x y z : List Rule) → a ≡ foldl lower f x → b ≡ foldl lower a y → r ≡ foldl lower b z → r ≡ foldl lower f (x ++ (y ++ z))

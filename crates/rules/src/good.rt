@@ -15,6 +15,7 @@ pub const NAMED: u64 = 127 | 4095 << 8 | 63 << 20 | 63 << 30 | 63 << 40;
 pub const MOST: u16 = 65535;
 
 // D is 1 to the room.
+#[tactic(auto, unfolding(model::specs::Table::size_good, model::specs::Table::room))]
 pub fn size_good(d: u64) -> bool
     ensures { result ≡ size_good d }
 {
@@ -22,6 +23,7 @@ pub fn size_good(d: u64) -> bool
 }
 
 // What all share, with made of the word's owner.
+#[tactic(auto, unfolding(model::specs::Parts::Good::shared_good))]
 pub fn shared_good(s: Shared, ownermade: u16) -> bool
     ensures { result ≡ Good.shared_good s ownermade }
 {
@@ -30,23 +32,12 @@ pub fn shared_good(s: Shared, ownermade: u16) -> bool
         & masks::within(d, s.active)
         & masks::within(d, s.activecopies)
         & masks::within(d, s.wordcopies)
-        & (wide(s.word.owner) < d)
+        & (u64::from(s.word.owner) < d)
         & (s.word.spin <= ownermade)
 }
 
-fn wide(x: u8) -> u64
-    ensures { result ≡ x }
-{
-    x as u64
-}
-
-fn wide16(x: u16) -> u64
-    ensures { result ≡ x }
-{
-    x as u64
-}
-
 // The fields of port k.
+#[tactic(auto, unfolding(model::specs::Parts::Good::fields_good, model::specs::Table::most))]
 fn fields_good(active: u64, k: u64, p: Port) -> bool
     ensures { result ≡ Good.fields_good active k p }
 {
@@ -68,6 +59,7 @@ fn fields_good(active: u64, k: u64, p: Port) -> bool
 }
 
 // The copy sets of a port that has made so many spins.
+#[tactic(auto, unfolding(model::specs::Parts::Good::copies_good))]
 fn copies_good(d: u64, made: u16, c: Copies) -> bool
     ensures { result ≡ Good.copies_good d made c }
 {
@@ -78,6 +70,7 @@ fn copies_good(d: u64, made: u16, c: Copies) -> bool
 }
 
 // The rules for port k that look at no other port: fields, copy sets, own spin.
+#[tactic(auto, unfolding(model::specs::Parts::Rules::own_tests))]
 pub fn own_good(s: Shared, k: u64, p: Port, c: Copies) -> bool
     ensures { result ≡ Rules.own_tests s k p c }
 {
@@ -105,8 +98,8 @@ pub fn unseen_good(d: u64, w: Work) -> bool
 pub fn seen_good(d: u64, point: u8, seenmade: u16, candidatemade: u16, w: Work) -> bool
     ensures { result ≡ Rules.seen_tests d point seenmade candidatemade w }
 {
-    (wide(w.seenowner) < d)
-        & (wide(w.candidate) < d)
+    (u64::from(w.seenowner) < d)
+        & (u64::from(w.candidate) < d)
         & (w.seenspin <= seenmade)
         & (w.candidatespin <= candidatemade)
         & (!((point == 25) | (point == 35) | (point == 45)) | (0 < w.seenspin))
@@ -115,6 +108,8 @@ pub fn seen_good(d: u64, point: u8, seenmade: u16, candidatemade: u16, w: Work) 
 }
 
 // All rules for port k, with made of its seen owner and of its candidate.
+// Stays with two numbers at the end, as in `faults`: no plainer, since a struct would be made anew for each port, and each rule reads one of them.
+#[tactic(auto, unfolding(model::specs::Parts::Rules::port_tests))]
 pub fn port_good(s: Shared, k: u64, p: Port, c: Copies, seenmade: u16, candidatemade: u16) -> bool
     ensures { result ≡ Rules.port_tests s k p c seenmade candidatemade }
 {
@@ -141,13 +136,16 @@ fn joined_spins(p: Port) -> u16
 }
 
 // All that is kept for a port, joined bit by bit: 0 where each of it is.
+#[tactic(auto, unfolding(model::specs::Parts::Rules::joined_port))]
 pub fn joined(p: Port, c: Copies) -> u64
     ensures { result ≡ Rules.joined_port p c }
 {
-    c.status | c.go | c.spin | wide(joined_bytes(p)) | wide16(joined_spins(p))
+    c.status | c.go | c.spin | u64::from(joined_bytes(p)) | u64::from(joined_spins(p))
 }
 
 // How many ports are tested: D, or none where it is out of range.
+// Stays 0 there, as in `slot`: definitions Rules.ports_of and slot_of have it so.
+#[tactic(auto, unfolding(model::specs::Parts::Rules::ports_of, model::specs::Table::size_good, model::specs::Table::room))]
 pub fn ports(d: u64) -> usize
     ensures value { result ≡ Rules.ports_of d }
     ensures upper_bound { result ≤ room }
@@ -156,6 +154,7 @@ pub fn ports(d: u64) -> usize
 }
 
 // The place of port k in a table; place 0 where a table has no room for it.
+#[tactic(auto, unfolding(model::specs::Parts::Rules::slot_of, model::specs::Table::room))]
 pub fn slot(k: u64) -> usize
     ensures value { result ≡ Rules.slot_of k }
     ensures upper_bound { result < room }

@@ -2,15 +2,10 @@
 // the distributed costs, and the point after, for each half.
 #![tactic(auto)]
 
+use answers::Event;
 use lock::events;
-use model::Table;
+use model::{Outcome, Table};
 use std::io;
-
-const ENTER: u64 = 1;
-
-const STEP: u64 = 2;
-
-const LEAVE: u64 = 5;
 
 // A table, and what the steps that led to it cost.
 #[derive(Clone, Copy)]
@@ -20,6 +15,11 @@ struct Passed {
     distributed: u64,
 }
 
+// An event of port 0.
+fn event(table: Table, event: Event) -> Outcome {
+    events::event(table, 0, event as u64)
+}
+
 // n steps of port 0.
 fn steps(table: Table, n: u64) -> Passed {
     let mut p = Passed {
@@ -27,23 +27,15 @@ fn steps(table: Table, n: u64) -> Passed {
         cached: 0,
         distributed: 0,
     };
-    let mut i: u64 = 0;
-    while i < n {
-        p = step(p);
-        i += 1;
+    for _ in 0..n {
+        let o = event(p.table, Event::Step);
+        p = Passed {
+            table: o.table,
+            cached: p.cached.wrapping_add(o.cached),
+            distributed: p.distributed.wrapping_add(o.distributed),
+        };
     }
     p
-}
-
-// One step of port 0.
-fn step(p: Passed) -> Passed {
-    let o = events::event(p.table, 0, STEP);
-    let table = o.table;
-    Passed {
-        table,
-        cached: std::num::wrapping_add_u64(p.cached, o.cached),
-        distributed: std::num::wrapping_add_u64(p.distributed, o.distributed),
-    }
 }
 
 fn print(rt: &impl Print, label: &str, n: u64, p: Passed) -> io::Result<()> {
@@ -55,10 +47,10 @@ fn print(rt: &impl Print, label: &str, n: u64, p: Passed) -> io::Result<()> {
 
 fn main(rt: HostRuntime) -> io::Result<()> {
     let made = events::fresh(2);
-    let entered = events::event(made.table, 0, ENTER);
+    let entered = event(made.table, Event::Enter);
     let inside = steps(entered.table, 14);
     print(&rt, "in", 14, inside)?;
-    let left = events::event(inside.table, 0, LEAVE);
+    let left = event(inside.table, Event::Leave);
     let home = steps(left.table, 13);
     print(&rt, "out", 13, home)
 }

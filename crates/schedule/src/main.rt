@@ -2,158 +2,96 @@
 // prints is written before the next is read. Its memory does not grow with the input. Its exit status is 0, also after a malformed line: `BAD` says that.
 #![tactic(auto)]
 
-ghost use Rattle.std.specs.Prelude.{◌≡◌, true, ◌≤◌, ◌<◌, length, drop};
+ghost use Rattle.std.specs.Prelude.{◌≡◌, ◌≤◌, ◌<◌, length, drop, IfOk};
 ghost use Rattle.listing.specs.Took.{took};
 
 use lines::reading;
-use listing::{Run, runs};
-use std::io;
+use listing::{Fed, Run, runs};
+use std::{fmt, io};
 use text::LONGEST;
 
 // How many bytes are read, or written, at a time.
+// Stay fixed buffers, of this size and of a line's: memory does not grow with the input, and `runs::feed` writes into what it is lent.
 const PIECE: usize = 65536;
 
-// The run after a piece of input, and whether all that it printed was written.
+// Why the listing stops before its end.
 #[derive(Clone, Copy)]
-struct Turn {
-    run: Run,
-    written: bool,
+enum Failed {
+    Read,
+    Write,
 }
 
-// What the run took of a piece, and whether what it printed was written.
-#[derive(Clone, Copy)]
-struct Taken {
-    run: Run,
-    taken: usize,
-    written: bool,
-}
-
-// What follows a piece of input: another, the end of the input, or nothing, where the run is at its end or a call failed.
-#[derive(Clone, Copy)]
-enum Next {
-    Piece,
-    End,
-    Nothing,
-}
-
-#[derive(Clone, Copy)]
-struct Read {
-    run: Run,
-    next: Next,
-}
-
-// Writes all of a text to standard output, or says that it cannot.
-fn write<R: Print + Eprint>(rt: &R, text: &[u8]) -> bool {
-    let written = rt.write_all(text).is_ok();
-    if !written {
-        let _ = rt.eprintln("schedule: cannot write");
+impl fmt::Display for Failed {
+    fn fmt<W: fmt::Write>(&self, f: &mut fmt::Formatter<W>) -> fmt::Result {
+        match self {
+            Failed::Read => write!(f, "cannot read"),
+            Failed::Write => write!(f, "cannot write"),
+        }
     }
-    written
+}
+
+// Writes all of a text to standard output.
+fn write(rt: &impl Print, text: &[u8]) -> Result<(), Failed> {
+    rt.write_all(text).map_err(|_| Failed::Write)
 }
 
 // Feeds the run once, and writes what it printed. What is left of the piece is still to be taken; a run that takes nothing is at its end.
-fn feed<R: Print + Eprint>(rt: &R, run: Run, piece: &[u8]) -> Taken
-    ensures taken_in_bounds { result.taken ≤ length piece.now }
-    ensures rest_to_take { took run piece.now ≡ took result.run (drop result.taken piece.now) }
-    ensures at_its_end { 0 < length piece.now → result.taken ≡ 0 → took run piece.now ≡ result.run }
+fn feed(rt: &impl Print, run: Run, piece: &[u8]) -> Result<Fed, Failed>
+    ensures taken_in_bounds { IfOk result (λ fed. fed.taken ≤ length piece.now) }
+    ensures rest_to_take { IfOk result (λ fed. took run piece.now ≡ took fed.run (drop fed.taken piece.now)) }
+    ensures at_its_end { IfOk result (λ fed. 0 < length piece.now → fed.taken ≡ 0 → took run piece.now ≡ fed.run) }
 {
     let mut out = [0u8; PIECE];
     let fed = runs::feed(run, piece, &mut out);
-    let n = fed.written;
-    let written = write(rt, &out[..n]);
-    let after = fed.run;
-    Taken {
-        run: after,
-        taken: fed.taken,
-        written,
-    }
+    write(rt, &out[..fed.written])?;
+    Ok(fed)
 }
 
 // Feeds the run until the piece is used up or the run is at its end: it has then taken every byte of the piece that it takes.
-fn feed_all<R: Print + Eprint>(rt: &R, run: Run, piece: &[u8]) -> Turn
-    ensures { result.written ≡ true → result.run ≡ took run piece.now }
+fn feed_all(rt: &impl Print, run: Run, piece: &[u8]) -> Result<Run, Failed>
+    ensures { IfOk result (λ after. after ≡ took run piece.now) }
 {
     let mut now = run;
-    let mut at: usize = 0;
-    while at < piece.len() {
-        let c = feed(rt, now, &piece[at..]);
-        let after = c.run;
-        let n = c.taken;
-        now = after;
-        if !c.written {
-            return Turn {
-                run: now,
-                written: false,
-            };
+    let mut rest = piece;
+    while !rest.is_empty() {
+        let fed = feed(rt, now, rest)?;
+        now = fed.run;
+        if fed.taken == 0 {
+            break;
         }
-        if n == 0 {
-            return Turn {
-                run: now,
-                written: true,
-            };
-        }
-        at += n;
+        rest = &rest[fed.taken..];
     }
-    Turn {
-        run: now,
-        written: true,
-    }
-}
-
-// Reads a piece and passes it on. A run at its end waits for no more input.
-fn take_piece<R: Print + Eprint, I: io::Read>(rt: &R, input: &mut I, run: Run) -> Read {
-    let mut piece = [0u8; PIECE];
-    let Ok(n) = input.read(&mut piece) else {
-        let _ = rt.eprintln("schedule: cannot read");
-        return Read {
-            run,
-            next: Next::Nothing,
-        };
-    };
-    if n == 0 {
-        return Read {
-            run,
-            next: Next::End,
-        };
-    }
-    let t = feed_all(rt, run, &piece[..n]);
-    let after = t.run;
-    let stage = after.stage;
-    if t.written & reading::live(stage) {
-        return Read {
-            run: after,
-            next: Next::Piece,
-        };
-    }
-    Read {
-        run: after,
-        next: Next::Nothing,
-    }
+    Ok(now)
 }
 
 // Writes what the end of the input prints.
-fn end<R: Print + Eprint>(rt: &R, run: Run) {
+fn end(rt: &impl Print, run: Run) -> Result<(), Failed> {
     let mut out = [0u8; LONGEST];
     let n = runs::finish(run, &mut out);
-    write(rt, &out[..n]);
+    write(rt, &out[..n])
 }
 
-// A proved loop has to end, and nothing says that an input does: there are as many turns as a number that no run uses up.
-fn main(rt: HostRuntime) {
-    let mut input = rt.stdin();
+// Lists all of an input. A run at its end waits for no more of it. A proved loop has to end, and nothing says that an input does: there are as many turns
+// as a number that no run uses up.
+fn list<I: io::Read>(rt: &impl Print, input: &mut I) -> Result<(), Failed> {
+    let mut piece = [0u8; PIECE];
     let mut run = runs::start();
     for _ in 0..u64::MAX {
-        let t = take_piece(&rt, &mut input, run);
-        run = t.run;
-        match t.next {
-            Next::Piece => {}
-            Next::End => {
-                end(&rt, run);
-                return;
-            }
-            Next::Nothing => {
-                return;
-            }
+        let n = input.read(&mut piece).map_err(|_| Failed::Read)?;
+        if n == 0 {
+            return end(rt, run);
         }
+        run = feed_all(rt, run, &piece[..n])?;
+        if !reading::live(run.stage) {
+            break;
+        }
+    }
+    Ok(())
+}
+
+fn main(rt: HostRuntime) {
+    let mut input = rt.stdin();
+    if let Err(failed) = list(&rt, &mut input) {
+        let _ = eprintln!(rt; "schedule: {failed}");
     }
 }

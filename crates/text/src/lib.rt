@@ -7,6 +7,7 @@ ghost use Rattle.text.specs.Text as Text;
 ghost use Rattle.text.specs.Parts as Parts;
 
 use model::Shared;
+use putting::Sheet;
 
 mod putting;
 
@@ -14,6 +15,7 @@ mod putting;
 pub const LONGEST: usize = 256;
 
 // What is printed for an event: the line's number, the event's letter and port, the answer, the port's point, what all ports share, and both costs.
+// Stays numbers: a row is printed whatever numbers it holds (definition Parts.row_text).
 #[derive(Clone, Copy)]
 pub struct Row {
     pub number: u64,
@@ -30,20 +32,20 @@ pub struct Row {
 fn has_room(room: usize, at: usize) -> bool
     ensures { result ≡ leb (at + Text.longest) room }
 {
-    if room < LONGEST {
-        return false;
-    }
-    at <= room - LONGEST
+    LONGEST <= room && at <= room - LONGEST
 }
 
 // Puts the line for an event into `out` from a place on, where there is room for the longest line, and else nothing; gives the place after it.
+// Stays a buffer and a place, here and in put_bad: public functions, whose signatures may not change.
 pub fn put_row(out: &mut [u8], at: usize, row: Row) -> usize
     ensures value { result ≡ at + length (Parts.fitting (length out.old) at (Parts.row_text row)) }
     ensures out_after { out.new ≡ sets out.old at (Parts.fitting (length out.old) at (Parts.row_text row)) }
     ensures upper_bound { result ≤ at + Text.longest }
 {
     if has_room(out.len(), at) {
-        return putting::event_line(out, at, row);
+        let mut sheet = Sheet { out, at };
+        sheet.event(row);
+        return sheet.at;
     }
     at
 }
@@ -55,7 +57,9 @@ pub fn put_bad(out: &mut [u8], at: usize, number: u64) -> usize
     ensures upper_bound { result ≤ at + Text.longest }
 {
     if has_room(out.len(), at) {
-        return putting::bad_line(out, at, number);
+        let mut sheet = Sheet { out, at };
+        sheet.bad(number);
+        return sheet.at;
     }
     at
 }

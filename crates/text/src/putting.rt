@@ -1,145 +1,151 @@
-// What is printed, put into a lent buffer from a place on; each function gives the place after it. Bytes past the buffer's end are dropped.
-ghost use Rattle.std.specs.Prelude.{◌≡◌, ◌+◌, ◌%◌, ◌<◌, ◌∷◌, [], ◌++◌, length};
+// What is printed, put into a lent buffer.
+ghost use Rattle.std.specs.Prelude.{◌≡◌, ◌+◌, ◌%◌, ◌<◌, ◌∷◌, [], ◌++◌, length, set};
 ghost use Rattle.lines.specs.Line.{newline, space};
 ghost use Rattle.text.specs.Text as Text;
 ghost use Rattle.text.specs.Parts as Parts;
-ghost use Rattle.text.specs.Laws.Put.{Put, limit};
+ghost use Rattle.text.specs.Laws.Put.{Puts, limit};
 
 use crate::Row;
 use model::Word;
-
-const NEWLINE: u8 = 10;
-
-const SPACE: u8 = 32;
-
-const DASH: u8 = 45;
-
-const DOT: u8 = 46;
-
-fn put(out: &mut [u8], at: usize, b: u8) -> usize
-    requires { at < limit }
-    ensures { Put out.old at (b ∷ []) 1 result out.new }
-{
-    if out.len() <= at {
-        return at + 1;
-    }
-    out[at] = b;
-    at + 1
-}
 
 // The last digit of n.
 fn last_digit(n: u64) -> u8
     ensures { result ≡ 48 + n % 10 }
 {
-    48 + (n % 10) as u8
+    b'0' + (n % 10) as u8
 }
 
 // How many digits n has.
 fn digits(n: u64) -> usize
     ensures { result ≡ length (Text.decimal n) }
 {
-    let mut x = n;
-    let mut c: usize = 1;
-    while 10 <= x {
-        x = x / 10;
-        c += 1;
+    match n.checked_ilog10() {
+        Some(k) => k as usize + 1,
+        None => 1,
     }
-    c
 }
 
-// A number in decimal: its digits are counted, and then put from the last to the first.
-fn put_decimal(out: &mut [u8], at: usize, n: u64) -> usize
-    requires { at + 20 < limit }
-    ensures { Put out.old at (Text.decimal n) 20 result out.new }
-{
-    let end = at + digits(n);
-    let mut x = n;
-    let mut i = end;
-    while 10 <= x {
-        i -= 1;
-        put(out, i, last_digit(x));
-        x = x / 10;
+// A lent buffer, and the place where the next byte goes. Bytes past the buffer's end are dropped.
+// Stays a bound in each contract: no plainer as an invariant, as each method needs places for the longest text of its own.
+#[derive(Drop)]
+pub struct Sheet<'a> {
+    pub out: &'a mut [u8],
+    pub at: usize,
+}
+
+impl Sheet<'_> {
+    fn set(&mut self, i: usize, b: u8)
+        ensures same { self.new.out.ghost_name ≡ self.old.out.ghost_name }
+        ensures place { self.new.at ≡ self.old.at }
+        ensures bytes { self.new.out.now ≡ set self.old.out.now i b }
+    {
+        if i < self.out.len() {
+            self.out[i] = b;
+        }
     }
-    put(out, at, last_digit(x));
-    end
-}
 
-fn put_cell(out: &mut [u8], at: usize, n: u64, after: u8) -> usize
-    requires { at + 21 < limit }
-    ensures { Put out.old at (Text.cell n after) 21 result out.new }
-{
-    let next = put_decimal(out, at, n);
-    put(out, next, after)
-}
-
-fn put_order(out: &mut [u8], at: usize, number: u64, letter: u8, port: u64) -> usize
-    requires { at + 44 < limit }
-    ensures { Put out.old at (Text.cell number space ++ (letter ∷ space ∷ []) ++ Text.cell port space) 44 result out.new }
-{
-    let a = put_cell(out, at, number, SPACE);
-    let b = put(out, a, letter);
-    let c = put(out, b, SPACE);
-    put_cell(out, c, port, SPACE)
-}
-
-fn put_point(out: &mut [u8], at: usize, answer: u64, point: u64) -> usize
-    requires { at + 21 < limit }
-    ensures { Put out.old at (Text.point_text answer point) 21 result out.new }
-{
-    if answer == 2 {
-        let a = put(out, at, DASH);
-        return put(out, a, SPACE);
+    fn put(&mut self, b: u8)
+        requires { self.old.at < limit }
+        ensures { Puts self.old (b ∷ []) 1 self.new }
+    {
+        self.set(self.at, b);
+        self.at += 1;
     }
-    put_cell(out, at, point, SPACE)
-}
 
-fn put_state(out: &mut [u8], at: usize, answer: u64, point: u64, active: u64) -> usize
-    requires { at + 63 < limit }
-    ensures { Put out.old at (Text.cell answer space ++ Text.point_text answer point ++ Text.cell active space) 63 result out.new }
-{
-    let a = put_cell(out, at, answer, SPACE);
-    let b = put_point(out, a, answer, point);
-    put_cell(out, b, active, SPACE)
-}
+    // A number in decimal: its digits are counted, and then put from the last to the first.
+    // Stays a loop: tried by itoa and as a recursion, which both miss the bar of speed (schedule-16).
+    fn decimal(&mut self, n: u64)
+        requires { self.old.at + 20 < limit }
+        ensures { Puts self.old (Text.decimal n) 20 self.new }
+    {
+        let end = self.at + digits(n);
+        let mut x = n;
+        let mut i = end;
+        while 10 <= x {
+            i -= 1;
+            self.set(i, last_digit(x));
+            x = x / 10;
+        }
+        self.set(self.at, last_digit(x));
+        self.at = end;
+    }
 
-fn put_word(out: &mut [u8], at: usize, word: Word) -> usize
-    requires { at + 63 < limit }
-    ensures { Put out.old at (Text.cell word.taken 46 ++ Text.cell word.owner 46 ++ Text.cell word.spin space) 63 result out.new }
-{
-    let a = put_cell(out, at, word.taken as u64, DOT);
-    let b = put_cell(out, a, word.owner as u64, DOT);
-    put_cell(out, b, word.spin as u64, SPACE)
-}
+    fn cell(&mut self, n: u64, after: u8)
+        requires { self.old.at + 21 < limit }
+        ensures { Puts self.old (Text.cell n after) 21 self.new }
+    {
+        self.decimal(n);
+        self.put(after);
+    }
 
-fn put_costs(out: &mut [u8], at: usize, cached: u64, distributed: u64) -> usize
-    requires { at + 42 < limit }
-    ensures { Put out.old at (Text.cell cached space ++ Text.cell distributed newline) 42 result out.new }
-{
-    let a = put_cell(out, at, cached, SPACE);
-    put_cell(out, a, distributed, NEWLINE)
-}
+    fn order(&mut self, number: u64, letter: u8, port: u64)
+        requires { self.old.at + 44 < limit }
+        ensures { Puts self.old (Text.cell number space ++ (letter ∷ space ∷ []) ++ Text.cell port space) 44 self.new }
+    {
+        self.cell(number, b' ');
+        self.put(letter);
+        self.put(b' ');
+        self.cell(port, b' ');
+    }
 
-// The line for an event.
-pub fn event_line(out: &mut [u8], at: usize, row: Row) -> usize
-    requires { at + Text.longest < limit }
-    ensures { Put out.old at (Parts.row_text row) Text.longest result out.new }
-{
-    let shared = row.shared;
-    let word = shared.word;
-    let a = put_order(out, at, row.number, row.letter, row.port);
-    let b = put_state(out, a, row.answer, row.point, shared.active);
-    let c = put_word(out, b, word);
-    put_costs(out, c, row.cached, row.distributed)
-}
+    fn point(&mut self, answer: u64, point: u64)
+        requires { self.old.at + 21 < limit }
+        ensures { Puts self.old (Text.point_text answer point) 21 self.new }
+    {
+        if answer == 2 {
+            self.put(b'-');
+            self.put(b' ');
+        } else {
+            self.cell(point, b' ');
+        }
+    }
 
-// `BAD` and the number of a malformed line.
-pub fn bad_line(out: &mut [u8], at: usize, number: u64) -> usize
-    requires { at + Text.longest < limit }
-    ensures { Put out.old at (Text.bad number) Text.longest result out.new }
-{
-    let a = put(out, at, 66);
-    let b = put(out, a, 65);
-    let c = put(out, b, 68);
-    let d = put(out, c, SPACE);
-    put_cell(out, d, number, NEWLINE)
+    fn state(&mut self, answer: u64, point: u64, active: u64)
+        requires { self.old.at + 63 < limit }
+        ensures { Puts self.old (Text.cell answer space ++ Text.point_text answer point ++ Text.cell active space) 63 self.new }
+    {
+        self.cell(answer, b' ');
+        self.point(answer, point);
+        self.cell(active, b' ');
+    }
+
+    fn word(&mut self, word: Word)
+        requires { self.old.at + 63 < limit }
+        ensures { Puts self.old (Text.cell word.taken 46 ++ Text.cell word.owner 46 ++ Text.cell word.spin space) 63 self.new }
+    {
+        self.cell(word.taken as u64, b'.');
+        self.cell(word.owner as u64, b'.');
+        self.cell(word.spin as u64, b' ');
+    }
+
+    fn costs(&mut self, cached: u64, distributed: u64)
+        requires { self.old.at + 42 < limit }
+        ensures { Puts self.old (Text.cell cached space ++ Text.cell distributed newline) 42 self.new }
+    {
+        self.cell(cached, b' ');
+        self.cell(distributed, b'\n');
+    }
+    // The line for an event.
+    pub fn event(&mut self, row: Row)
+        requires { self.old.at + Text.longest < limit }
+        ensures { Puts self.old (Parts.row_text row) Text.longest self.new }
+    {
+        let shared = row.shared;
+        self.order(row.number, row.letter, row.port);
+        self.state(row.answer, row.point, shared.active);
+        self.word(shared.word);
+        self.costs(row.cached, row.distributed);
+    }
+
+    // `BAD` and the number of a malformed line.
+    pub fn bad(&mut self, number: u64)
+        requires { self.old.at + Text.longest < limit }
+        ensures { Puts self.old (Text.bad number) Text.longest self.new }
+    {
+        self.put(b'B');
+        self.put(b'A');
+        self.put(b'D');
+        self.put(b' ');
+        self.cell(number, b'\n');
+    }
 }

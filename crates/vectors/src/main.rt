@@ -4,11 +4,13 @@
 mod lines;
 mod text;
 
-ghost use Rattle.std.specs.Prelude.{◌≡◌, ◌<◌, ◌≤◌, length, IfOk};
-
 use image::reader;
+use lines::Line;
+use std::alloc::{AllocError, Global};
+use std::io::Read;
 use std::rt::Files;
-use std::{fs, io};
+use std::{fmt, fs, io};
+use text::Cursor;
 
 // An image of two ports.
 const IMAGE: [u8; 74] = [
@@ -17,8 +19,13 @@ const IMAGE: [u8; 74] = [
     0, 109, 4, 0, 0, 0, 0, 0, 3, 0, 3, 0, 2, 0, 2, 0, 3, 0, 3, 0, 1, 0,
 ];
 
+// The most lines that are read of a file, and the most bytes.
+const LINES: u64 = 1000;
+
+const BYTES: u64 = 600000;
+
 // How many lines were read, how many of them are right, and how many were answered 0, 1 and 11.
-#[derive(Clone, Copy)]
+#[derive(Clone, Copy, Default)]
 struct Tally {
     lines: u64,
     right: u64,
@@ -27,158 +34,88 @@ struct Tally {
     badimage: u64,
 }
 
-fn more(n: u64, yes: bool) -> u64 {
-    if yes {
-        std::num::wrapping_add_u64(n, 1)
-    } else {
-        n
+impl Tally {
+    fn count(&mut self, number: u64, right: bool) {
+        self.lines = self.lines.wrapping_add(1);
+        self.right = self.right.wrapping_add(u64::from(right));
+        self.done = self.done.wrapping_add(u64::from(number == 0));
+        self.badtable = self.badtable.wrapping_add(u64::from(number == 1));
+        self.badimage = self.badimage.wrapping_add(u64::from(number == 11));
     }
 }
 
-fn nothing() -> Tally {
-    Tally {
-        lines: 0,
-        right: 0,
-        done: 0,
-        badtable: 0,
-        badimage: 0,
+// The answers alone.
+impl fmt::Display for Tally {
+    fn fmt<W: fmt::Write>(&self, f: &mut fmt::Formatter<W>) -> fmt::Result {
+        let Tally {
+            done,
+            badtable,
+            badimage,
+            ..
+        } = *self;
+        write!(f, "done {done} bad table {badtable} bad image {badimage}")
     }
 }
 
-fn counted(t: Tally, number: u64, right: bool) -> Tally {
-    Tally {
-        lines: more(t.lines, true),
-        right: more(t.right, right),
-        done: more(t.done, number == 0),
-        badtable: more(t.badtable, number == 1),
-        badimage: more(t.badimage, number == 11),
-    }
-}
-
-// All lines of a text, of which there are fewer than 1,000.
-fn all_lines(text: &[u8], events: bool) -> Tally {
-    let mut t = nothing();
-    let mut at: usize = 0;
-    let mut k: u64 = 0;
-    while k < 1000 {
-        if text.len() <= at {
-            return t;
-        }
-        let l = lines::line_at(text, at, events);
-        t = counted(t, l.number, l.right);
-        at = l.next;
-        k += 1;
-    }
-    t
-}
-
-// What the reader answers to the image with another byte at place i.
-fn damaged(i: usize, b: u8) -> u64
-    requires { i < 74 }
+// All lines of a text, each read and carried out by `line`.
+fn all_lines<F>(alloc: Global, text: &[u8], line: F) -> Result<Tally, AllocError>
+where
+    F: Fn(Global, &mut Cursor<'_>) -> Result<Line, AllocError>,
+    requires { F.IsAlwaysCallable line }
 {
-    let mut bytes = IMAGE;
-    bytes[i] = b;
-    let made = reader::read(&bytes);
-    let answer = made.answer;
-    answers::number(answer)
-}
-
-// The tally with every damage of the byte at place i.
-fn damages_at(i: usize, t: Tally) -> Tally
-    requires { i < 74 }
-{
-    let image = IMAGE;
-    let mut u = t;
-    let mut b: u64 = 0;
-    while b < 256 {
-        let v = (b % 256) as u8;
-        if v != image[i] {
-            u = counted(u, damaged(i, v), true);
-        }
-        b += 1;
-    }
-    u
-}
-
-fn damages() -> Tally {
-    let mut t = nothing();
-    let mut i: usize = 0;
-    while i < 74 {
-        t = damages_at(i, t);
-        i += 1;
-    }
-    t
-}
-
-fn print(rt: &impl Print, label: &str, n: u64) -> io::Result<()> {
-    print!(rt; "{label}{n}")
-}
-
-fn print_answers(rt: &impl Print, t: Tally) -> io::Result<()> {
-    print(rt, " done ", t.done)?;
-    print(rt, " bad table ", t.badtable)?;
-    print(rt, " bad image ", t.badimage)?;
-    println!(rt)
-}
-
-// Reads until the space is full or the file ends, and gives how many bytes were read.
-fn read_full<I: io::Read>(file: &mut I, space: &mut [u8]) -> io::Result<usize>
-    ensures { IfOk result (λ n. n ≤ length space.new) }
-{
-    let mut n: usize = 0;
-    for _ in 0..u64::MAX {
-        let got = file.read(&mut space[n..])?;
-        if got == 0 {
+    let mut tally = Tally::default();
+    let mut rest = Cursor::new(text);
+    for _ in 0..LINES {
+        if rest.is_empty() {
             break;
         }
-        n += got;
+        let l = line(alloc, &mut rest)?;
+        tally.count(l.number, l.right);
     }
-    Ok(n)
+    Ok(tally)
 }
 
-// Runs the lines of a file, which is shorter than the space for it.
-fn run_lines<R: Print, I: io::Read>(
-    rt: &R,
-    label: &str,
-    file: &mut I,
-    space: &mut [u8],
-    events: bool,
-) -> io::Result<()> {
-    let n = read_full(file, space)?;
-    let t = all_lines(&space[..n], events);
-    print(rt, label, t.lines)?;
-    print(rt, " right ", t.right)?;
-    print_answers(rt, t)
+// Every damage of one byte of the image.
+fn damages() -> Tally {
+    let mut tally = Tally::default();
+    for (i, was) in IMAGE.iter().enumerate() {
+        for b in 0..=u8::MAX {
+            if b != *was {
+                let mut image = IMAGE;
+                image[i] = b;
+                tally.count(answers::number(reader::read(&image).answer), true);
+            }
+        }
+    }
+    tally
 }
 
-// Room for the longest file. Only its length is known, since no proof could write out so many zeros.
-fn file_space() -> [u8; 600000]
-    ensures { 600000 ≡ length result }
-{
-    [0; 600000]
-}
-
-// A file that cannot be opened is left out, and said to be.
-fn run_file<R: Files + Print + Eprint>(
+// Runs the lines of a file. One that cannot be opened is left out, and said to be.
+fn run_file<R: Files + Print + Eprint + AllocGlobal, F>(
     rt: &R,
     label: &str,
     path: &str,
-    events: bool,
-) -> io::Result<()> {
-    let mut file = match fs::open(rt, path) {
+    line: F,
+) -> io::Result<()>
+where
+    F: Fn(Global, &mut Cursor<'_>) -> Result<Line, AllocError>,
+    requires { F.IsAlwaysCallable line }
+{
+    let file = match fs::open(rt, path) {
         Ok(file) => file,
         Err(e) => {
             return eprintln!(rt; "{path}: {e}");
         }
     };
-    let mut space = file_space();
-    run_lines(rt, label, &mut file, &mut space, events)
+    let mut text = Vec::new(rt.alloc());
+    file.take(BYTES).read_to_end(&mut text)?;
+    let tally = all_lines(rt.alloc(), &text, line)?;
+    println!(rt; "{label} {} right {} {tally}", tally.lines, tally.right)
 }
 
 fn main(rt: HostRuntime) -> io::Result<()> {
-    run_file(&rt, "images ", "images.txt", false)?;
-    run_file(&rt, "events ", "events.txt", true)?;
-    let t = damages();
-    print(&rt, "damages ", t.lines)?;
-    print_answers(&rt, t)
+    run_file(&rt, "images", "images.txt", lines::image)?;
+    run_file(&rt, "events", "events.txt", lines::event)?;
+    let tally = damages();
+    println!(rt; "damages {} {tally}", tally.lines)
 }

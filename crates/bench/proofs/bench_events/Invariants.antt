@@ -1,9 +1,5 @@
-use Prim.Native.Nat.{◌-◌}
 use Rattle.lock.specs.Turns.{Running}
 use Rattle.bench.proofs.bench_events.Given as goal
 
 abbrev pub invariant-loop-i : goal.invariant-loop-i
-invariant-loop-i l = Running l.orders l.n l.initial.table l.initial.answers l.i l.table l.answers
-
-abbrev pub decreases-loop-i : goal.decreases-loop-i
-decreases-loop-i l = l.n - l.i
+invariant-loop-i l = Running l.orders l.n l.made.table l.initial.answers l.i l.table l.answers

@@ -1,5 +1,5 @@
 -- An order on an image from the fields that it leaves: the image of the table after it.
-use Rattle.std.specs.Prelude.{◌≡◌, Bool, true, false, ℕ, ◌+◌, ◌*◌, ◌%◌, ◌≤◌, ◌<◌, leb, get_or, drop}
+use Rattle.std.specs.Prelude.{◌≡◌, Bool, true, false, ℕ, ◌+◌, ◌*◌, ◌%◌, ◌≤◌, ◌<◌, leb, get_or, drop, Result, Ok, Err, ⊤}
 use Rattle.std.proofs.Math.Path.{refl, sym, ap}
 use Rattle.std.proofs.Common.{◌∙◌, subst, mod-eq_of_lt}
 use mathlib.Core.List.{List, [], ◌∷◌}
@@ -16,8 +16,11 @@ use Rattle.model.specs.declared.Cell.TheVariants.{Nothing, Status, Go, Spin, Act
 use Rattle.model.specs.Table.{room, port_at, copies_at}
 use Rattle.model.specs.Good.{good}
 use Rattle.model.specs.Points.{point_of}
-use Rattle.model.specs.Event.{number_of, answer_code, stepping, first_of, refusals, refusal, ordered, event}
-use Rattle.model.specs.Run.{code_of}
+use Rattle.model.specs.Event.{number_of, stepping, first_of, refusals, refusal, ordered, event}
+use Rattle.model.specs.declared.Answer.{Answer}
+use Rattle.model.specs.declared.Answer.TheVariants.{NoSuchPort}
+use Rattle.answers.specs.declared.Costs.{Costs}
+use Rattle.answers.specs.Verdict.{passed, paid}
 use Rattle.model.specs.Parts.Moves.{view, tried}
 use Rattle.model.specs.Parts.Charges.{touch_at, home, holders, fee_of}
 use Rattle.model.specs.Parts.Steps.{touch_of, home_of, view_of, move_of, setting, marked}
@@ -25,7 +28,7 @@ use Rattle.model.proofs.Laws.Rules.{port-rules}
 use Rattle.model.proofs.Laws.Kept.{room_fits}
 use Rattle.model.proofs.Laws.Fees.{charge-cost}
 use Rattle.costs.specs.Single.{charge-fee}
-use Rattle.lock.specs.Single.{event-code}
+use Rattle.lock.specs.Ready.{passed-ok, passed-err}
 use Rattle.model.specs.Bytes.{Bytes, sum, unpack}
 use Rattle.model.specs.Layout.{shared_widths, port_widths, head_widths, port_values, port_of, set_width, copied_widths, copies_widths, shared_of, copies_of, port_place, copies_place, size}
 use Rattle.layout.specs.Places.{set_place}
@@ -114,6 +117,10 @@ pub record Reading (d : ℕ) (bs : List ℕ) (k : ℕ) (own : Port) (u : Touch) 
       m ≡ tried (view own (get_or (there shared_widths (sum head_widths) bs) 0 0) d k q.go (shared_of 0 (there shared_widths (sum head_widths) bs) []).word)
   pub fee : f ≡ fee_of u (k % 64) own.work q before
 
+-- no costs
+abbrev pub none : Costs
+none = record { cached = 0; distributed = 0 }
+
 -- an order on the image of d ports
 module _ (d : ℕ) (bs : List ℕ) (h : Holds d bs) (k e : ℕ) where
   abbrev t : Table
@@ -123,10 +130,11 @@ module _ (d : ℕ) (bs : List ℕ) (h : Holds d bs) (k e : ℕ) where
   in_table q = rw (d-held d bs) q
 
   -- what refuses it
-  pub refuses-port : d ≤ k → 2 ≡ number_of (refusal t k e)
-  refuses-port q = sym (refused-port t k e h.sound (rw (d-held d bs) q))
+  pub refuses-port : d ≤ k → Err NoSuchPort ≡ passed (refusal t k e)
+  unfolding passed
+  refuses-port q = rw (refused-port t k e h.sound (rw (d-held d bs) q))
 
-  pub refuses-first : k < d → number_of (first_of (refusals e (port_of (there port_widths (port_place k) bs)))) ≡ number_of (refusal t k e)
+  pub refuses-first : k < d → first_of (refusals e (port_of (there port_widths (port_place k) bs))) ≡ refusal t k e
   refuses-first q = rw (port-held bs d h.ports h.some k q) (sym (refused-first t k e h.sound (in_table q)))
 
   passed-port : number_of (refusal t k e) ≡ 0 → k < d
@@ -134,35 +142,35 @@ module _ (d : ℕ) (bs : List ℕ) (h : Holds d bs) (k e : ℕ) where
     where
       go : (b : Bool) → leb d k ≡ b → k < d
       go true q =
-          let x : ◌≡◌ {A = ℕ} 2 0 = refuses-port (leb-true _ _ q) ∙ z in
+          let x : ◌≡◌ {A = ℕ} 2 0 = ap number_of (sym (refused-port t k e h.sound (rw (d-held d bs) (leb-true _ _ q)))) ∙ z in
           absurd (omega (arith, x))
       go false q = leb-false _ _ q
 
-  pub carries : (n : ℕ) → n ≡ number_of (refusal t k e) → n ≡ 0 → Acts d bs k e
-  carries n r z =
-      let p = sym r ∙ z in
+  pub carries : ◌≡◌ {A = Result ⊤ Answer} (Ok tt) (passed (refusal t k e)) → Acts d bs k e
+  carries r =
+      let p = passed-ok (refusal t k e) tt r in
       record { holds = h; port = passed-port p; passes = p }
 
   module _ (bytes : Bytes bs) where
     unmoved : bs ≡ encode t
     unmoved = sym (held-encoded bs d h.ports h.some bytes)
 
-    pub refused-made : (n : ℕ) → n ≡ number_of (refusal t k e) → (n ≡ 0 → ⊥) → (n ≡ code_of (event t k e)) × (bs ≡ encode (event t k e).table)
-    unfolding event
-    refused-made n r z =
-        let o = ne_eqb (number_of (refusal t k e)) 0 (λ x. z (r ∙ x)) in
-        let q : code_of (event t k e) ≡ number_of (refusal t k e) = event-code t k e h.sound ∙ rw o (omega arith) in
-        (r ∙ sym q, rw o unmoved)
+    pub refused-made : (a : Answer) → Err a ≡ passed (refusal t k e) → (Err a ≡ paid (event t k e)) × (bs ≡ encode (event t k e).table)
+    unfolding paid event
+    refused-made a r =
+        let q = passed-err (refusal t k e) a r in
+        let o = ne_eqb (number_of (refusal t k e)) 0 q.1 in
+        (rw (o, o, ← q.0), rw o unmoved)
 
     -- all but a step
     pub order-made : k < d → number_of (refusal t k e) ≡ 0 → (e ≡ stepping → ⊥) → (own : Port) → own ≡ port_of (there port_widths (port_place k) bs)
-        → (0 ≡ code_of (event t k e)) × (put_at port_widths (port_values (ordered e own)) (port_place k) bs ≡ encode (event t k e).table)
-    unfolding answer_code code_of
+        → (Ok none ≡ paid (event t k e)) × (put_at port_widths (port_values (ordered e own)) (port_place k) bs ≡ encode (event t k e).table)
+    unfolding paid
     order-made q r z own m =
         let o = event-ordered t k e r z in
         let mine = m ∙ port-held bs d h.ports h.some k q in
         rw o (
-          omega arith,
+          refl,
           rw mine
               (ap (put_at port_widths (port_values (ordered e (port_at t k))) (port_place k)) unmoved
               ∙ put-own t (held-sized bs d h.ports h.some) (rw (d-held d bs) (held_fits bs d h.ports h.some)) k (ordered e (port_at t k)) (in_table q)),
@@ -212,22 +220,22 @@ module _ (d : ℕ) (bs : List ℕ) (k : ℕ) (a : Acts d bs k stepping) where
         (ap (λ (n : ℕ). tried (view (port_at was k) was.shared.active n k (port_at was (home_of was k)).go was.shared.word)) (sym (d-held d bs))
         ∙ step-tried was k a.holds.sound below a.passes)
 
-    paid : f ≡ fee_at was k
-    paid =
+    charged : f ≡ fee_at was k
+    charged =
         let e : k % 64 ≡ k = mod-eq_of_lt (omega (arith, a.port, fits, room_fits)) in
         let h : before ≡ holders (touch_of was k).cell was.shared (copies_at was (home_of was k)) =
         r.holders ∙ rw (touched, homed) (set-held bs d a.holds.ports a.holds.some (touch_of was k).cell (home_of was k) home_below) in
         r.fee ∙ rw (e, h, touched, other, mine)
 
     pub small : (f.cached < 256) × (f.distributed < 256)
-    small = rw paid (fee-small was k)
+    small = rw charged (fee-small was k)
 
     -- what it answers
-    pub step-answers : 256 * f.cached + 65536 * f.distributed ≡ code_of (event was k stepping)
-    unfolding answer_code code_of
+    pub step-answers : Ok (record { cached = f.cached; distributed = f.distributed }) ≡ paid (event was k stepping)
+    unfolding paid
     step-answers =
         let o : event was k stepping ≡ left was k = event-stepped was k stepping a.passes refl in
-        rw (o, paid) (omega arith)
+        rw (o, charged)
 
     -- and the image after it
     pub step-leaves : Bytes bs → (sets : Bool) → sets ≡ setting m q own.work
@@ -238,4 +246,4 @@ module _ (d : ℕ) (bs : List ℕ) (k : ℕ) (a : Acts d bs k stepping) where
         ap (λ (b : List ℕ). move_put k j u.kind m sets (sets_put d j (set_place u.cell d j) m.makes f.set b)) (sym (held-encoded bs d a.holds.ports a.holds.some bytes))
         ∙ ap (λ (n : ℕ). move_put k j u.kind m sets (sets_put n j (set_place u.cell n j) m.makes f.set (encode was))) (sym (d-held d bs))
         ∙ put_step was (held-sized bs d a.holds.ports a.holds.some) (rw (d-held d bs) fits) k j u m f.set sets below (rw homed (home-in was k a.holds.sound below))
-        ∙ rw (o, e, touched, homed, other, moved, paid, mine)
+        ∙ rw (o, e, touched, homed, other, moved, charged, mine)

@@ -1,5 +1,5 @@
 -- The calls by what the reader says of the image.
-use Rattle.std.specs.Prelude.{◌≡◌, Bool, List, [], ◌∷◌, ◌++◌, ℕ, ◌+◌, ◌≤◌, ◌<◌, ltb, get_or, take}
+use Rattle.std.specs.Prelude.{◌≡◌, Bool, List, [], ◌∷◌, ◌++◌, ◌&&◌, ℕ, ◌+◌, ◌≤◌, ◌<◌, ltb, get_or, take, Result, Ok, Err}
 use Rattle.std.proofs.Math.Path.{refl, ap}
 use Rattle.std.proofs.Common.{sym, ◌∙◌, subst, take_at, drop_at}
 use Rattle.std.proofs.Math.Bool.{true, false, cond}
@@ -7,7 +7,7 @@ use native.Mathlib.Omega.{arith}
 use borrow.Author.Tests.{eqb-true, eqb-false, ltb-false, eq-eqb, ne_eqb, lt-ltb, le-ltb}
 use Rattle.std.proofs.Math.Dec.{eqb}
 use Rattle.std.proofs.Math.ListN.{length, drop}
-use Rattle.std.proofs.Math.Seq.{sets, sets-eq, take-length, take-append_seam, drop-append_seam}
+use Rattle.std.proofs.Math.Seq.{sets, sets-eq}
 use Rattle.model.specs.declared.Table.{Table}
 use Rattle.model.specs.declared.Outcome.{Outcome}
 use Rattle.model.specs.declared.Answer.{Answer}
@@ -15,22 +15,28 @@ use Rattle.model.specs.declared.Answer.TheVariants.{Done, BadTable, NoSuchPort, 
 use Rattle.model.specs.Table.{Sized}
 use Rattle.model.specs.Good.{good}
 use Rattle.model.specs.Event.{number_of, answer_code, refusal, event}
-use Rattle.model.specs.Run.{Order, order, after, ran, code_of, codes}
+use Rattle.model.specs.Cost.{free}
+use Rattle.model.specs.Run.{Order, order, after, ran, codes}
+use Rattle.model.specs.Run as Run
+use Rattle.answers.specs.declared.Costs.{Costs}
+use Rattle.answers.specs.Verdict.{passed, paid, code_of}
+use Rattle.answers.proofs.Verdict.{code-paid}
 use Rattle.model.proofs.Laws.Cases.{refused-free}
 use Rattle.model.proofs.Laws.After.{after-sized, after-d}
 use Rattle.model.proofs.Laws.Kept.{good-after}
+use Rattle.lock.specs.Ready.{passed-err}
 use Rattle.model.specs.Bytes.{Bytes}
 use Rattle.model.specs.Layout.{d_in}
 use Rattle.records.specs.Records.{ports_in}
 use Rattle.records.specs.Laws.Head.{image-tests}
-use Rattle.image.specs.Image.{held, encode, decode, room_after}
+use Rattle.image.specs.Image.{held, encode, decode, checked, room_after}
 use Rattle.image.proofs.Laws.Held.{d-held, held-long, held-sized, held-encoded}
 use Rattle.image.proofs.Laws.Reading.{d-byte, accepted-image}
 use Rattle.image.proofs.Laws.Encoded.{encode-bytes}
 use Rattle.image.proofs.Laws.RoundTrip.{d-back, image-back, held_back, decode-encode}
 use Rattle.cabi.specs.Calls.{check_call, event_on, event_call, event_image, into_on, into_call, into_next, calls, calls_image}
 use Rattle.cabi.specs.Laws.Stepping.{event-done}
-use Rattle.cabi.specs.Laws.Acting.{Holds, refused-made}
+use Rattle.cabi.specs.Laws.Acting.{Holds}
 
 -- an answer in one number: but for BAD TABLE, document 01's; 0 is DONE
 pub code-plain : (a : Answer) → (number_of a ≡ 1 → ⊥) → number_of a ≡ answer_code a
@@ -57,12 +63,8 @@ module _ (bs : List ℕ) (n : ℕ) (a : n ≡ check_call bs) (z : number_of (dec
   unread = ne_eqb (number_of (decode bs).answer) 0 z
 
   pub event-unread : (k e : ℕ) → (n ≡ event_call bs k e) × (bs ≡ event_image bs k e)
-  unfolding check_call code_of event_call event_image
+  unfolding check_call Run.code_of event_call event_image
   event-unread k e = (a ∙ rw unread (omega arith), rw (unread, unread))
-
-  pub into-unread : (next : List ℕ) (k e : ℕ) → (n ≡ into_call bs (length next) k e) × (next ≡ into_next bs next k e)
-  unfolding check_call code_of into_call into_next room_after
-  into-unread next k e = (a ∙ rw (unread, unread) (omega arith), rw (unread, unread, unread))
 
 -- accepted by it: an image whose table is good
 pub accepted-holds : (bs : List ℕ) (n d : ℕ) → n ≡ number_of (decode bs).answer → n ≡ 0 → d ≡ get_or bs 1 0 → Holds d bs
@@ -72,14 +74,85 @@ accepted-holds bs n d a z e =
     let q : d ≡ d_in bs = e ∙ d-byte bs in
     record { ports = q ∙ rw h.0; some = rw q (image-tests bs h.0).some; sound = rw q h.1 }
 
+-- what the check says of an image: why it is refused, or that its table is good
+module _ (bs : List ℕ) where
+  pub check-refused : (a : Answer) → Err a ≡ checked bs → (a ≡ (decode bs).answer) × (number_of (decode bs).answer ≡ 0 → ⊥)
+  unfolding checked
+  check-refused a = go (eqb (number_of (decode bs).answer) 0) refl
+    where
+      go : (b : Bool) → eqb (number_of (decode bs).answer) 0 ≡ b → Err a ≡ cond b (Ok (d_in bs)) (Err (decode bs).answer) → (a ≡ (decode bs).answer) × (number_of (decode bs).answer ≡ 0 → ⊥)
+      go true q r = let f : ◌≡◌ {A = Result ℕ Answer} (Err a) (Ok (d_in bs)) = r in cc
+      go false q r = let f : ◌≡◌ {A = Result ℕ Answer} (Err a) (Err (decode bs).answer) = r in (cc, eqb-false _ _ q)
+
+  pub check-accepts : (d : ℕ) → Ok d ≡ checked bs → (d ≡ d_in bs) × (number_of (decode bs).answer ≡ 0)
+  unfolding checked
+  check-accepts d = go (eqb (number_of (decode bs).answer) 0) refl
+    where
+      go : (b : Bool) → eqb (number_of (decode bs).answer) 0 ≡ b → Ok d ≡ cond b (Ok (d_in bs)) (Err (decode bs).answer) → (d ≡ d_in bs) × (number_of (decode bs).answer ≡ 0)
+      go true q r = let f : ◌≡◌ {A = Result ℕ Answer} (Ok d) (Ok (d_in bs)) = r in (cc, eqb-true _ _ q)
+      go false q r = let f : ◌≡◌ {A = Result ℕ Answer} (Ok d) (Err (decode bs).answer) = r in cc
+
+  pub check-holds : (d : ℕ) → Ok d ≡ checked bs → Holds d bs
+  check-holds d r = let c = check-accepts d r in accepted-holds bs 0 d (sym c.1) refl (c.0 ∙ sym (d-byte bs))
+
+  pub check-done : (d : ℕ) → Ok d ≡ checked bs → 0 ≡ check_call bs
+  unfolding check_call
+  check-done d r = code-done (decode bs).answer (check-accepts d r).1
+
+  -- refused: the number of a call, and what an event answers
+  pub check-number : (a : Answer) → Err a ≡ checked bs → answer_code a ≡ check_call bs
+  unfolding check_call
+  check-number a r = ap answer_code (check-refused a r).0
+
+  pub refused-event : (a : Answer) (k e : ℕ) → Err a ≡ checked bs → (Err a ≡ paid (event_on bs k e)) × (bs ≡ event_image bs k e)
+  unfolding paid event_image
+  refused-event a k e r =
+      let c = check-refused a r in
+      let o = ne_eqb (number_of (decode bs).answer) 0 c.1 in
+      (rw (o, o, ← c.0), rw (o, o))
+
+  pub refused-into : (a : Answer) (next : List ℕ) (k e : ℕ) → Err a ≡ checked bs → (Err a ≡ paid (into_on bs (length next) k e)) × (next ≡ into_next bs next k e)
+  unfolding paid into_next room_after
+  refused-into a next k e r =
+      let c = check-refused a r in
+      let o = ne_eqb (number_of (decode bs).answer) 0 c.1 in
+      (rw (o, o, o, ← c.0), rw (o, o, o))
+
+-- a refused event costs nothing, so its result says its one number
+module _ (bs : List ℕ) (k e : ℕ) where
+  on-free : (number_of (event_on bs k e).answer ≡ 0 → ⊥) → ((event_on bs k e).cached ≡ 0) × ((event_on bs k e).distributed ≡ 0)
+  on-free = go (eqb (number_of (decode bs).answer) 0)
+    where
+      o : Bool → Outcome
+      o b = cond b (event (decode bs).table k e) (free (decode bs).answer (decode bs).table)
+
+      go : (b : Bool) → (number_of (o b).answer ≡ 0 → ⊥) → ((o b).cached ≡ 0) × ((o b).distributed ≡ 0)
+      go true n = let f = refused-free (decode bs).table k e n in (ap (λ (x : Outcome). x.cached) f, ap (λ (x : Outcome). x.distributed) f)
+      go false n = (refl, refl)
+
+  pub event-number : code_of (paid (event_on bs k e)) ≡ event_call bs k e
+  unfolding event_call
+  event-number = code-paid (event_on bs k e) on-free
+
+  pub into-number : (n : ℕ) → code_of (paid (into_on bs n k e)) ≡ into_call bs n k e
+  unfolding into_call
+  into-number n = code-paid (into_on bs n k e) (go (eqb (number_of (event_on bs k e).answer) 0 && ltb n (length bs)))
+    where
+      o : Bool → Outcome
+      o b = cond b (free ShortRoom (event_on bs k e).table) (event_on bs k e)
+
+      go : (b : Bool) → (number_of (o b).answer ≡ 0 → ⊥) → ((o b).cached ≡ 0) × ((o b).distributed ≡ 0)
+      go true x = (refl, refl)
+      go false x = on-free x
+
 -- the image of a good table
 module _ (t : Table) (s : Sized t) (g : good t ≡ true) (k e : ℕ) where
   on-table : event_on (encode t) k e ≡ event t k e
   on-table = rw (decode-encode t s g)
 
-  pub table-calls : (event_call (encode t) k e ≡ code_of (event t k e)) × (event_image (encode t) k e ≡ encode (event t k e).table)
+  pub table-calls : (event_call (encode t) k e ≡ Run.code_of (event t k e)) × (event_image (encode t) k e ≡ encode (event t k e).table)
   unfolding event_call event_image
-  table-calls = (ap code_of on-table, rw on-table (go (eqb (number_of (event t k e).answer) 0) refl))
+  table-calls = (ap Run.code_of on-table, rw on-table (go (eqb (number_of (event t k e).answer) 0) refl))
     where
       go : (b : Bool) → eqb (number_of (event t k e).answer) 0 ≡ b → cond b (encode (event t k e).table) (encode t) ≡ encode (event t k e).table
       go true q = refl
@@ -109,10 +182,10 @@ module _ (d : ℕ) (bs : List ℕ) (h : Holds d bs) (bytes : Bytes bs) (k e : �
   on-held : event_on bs k e ≡ event t k e
   on-held = subst (λ (b : List ℕ). event_on b k e ≡ event t k e) same (on-table t sized h.sound k e)
 
-  pub event-made : (n : ℕ) (next : List ℕ) → (n ≡ code_of (event t k e)) × (next ≡ encode (event t k e).table) → (n ≡ event_call bs k e) × (next ≡ event_image bs k e)
-  event-made n next r =
-      let c = subst (λ (b : List ℕ). (event_call b k e ≡ code_of (event t k e)) × (event_image b k e ≡ encode (event t k e).table)) same (table-calls t sized h.sound k e) in
-      (r.0 ∙ sym c.0, r.1 ∙ sym c.1)
+  pub event-made : (r : Result Costs Answer) (next : List ℕ) → (r ≡ paid (event t k e)) × (next ≡ encode (event t k e).table) → (r ≡ paid (event_on bs k e)) × (next ≡ event_image bs k e)
+  event-made r next m =
+      let c = subst (λ (b : List ℕ). event_image b k e ≡ encode (event t k e).table) same (table-calls t sized h.sound k e).1 in
+      (m.0 ∙ ap paid (sym on-held), m.1 ∙ sym c)
 
   pub next-holds : (next : List ℕ) → next ≡ encode (event t k e).table → Holds d next
   unfolding ports_in
@@ -135,35 +208,29 @@ module _ (d : ℕ) (bs : List ℕ) (h : Holds d bs) (bytes : Bytes bs) (k e : �
 
   -- into another buffer: refused by the event, for want of room, and done
   module _ (next : List ℕ) where
-    pub into-refused : (n : ℕ) → n ≡ number_of (refusal t k e) → (n ≡ 0 → ⊥) → (n ≡ into_call bs (length next) k e) × (next ≡ into_next bs next k e)
-    unfolding event into_call into_next room_after
-    into-refused n r z =
-        let o = ne_eqb (number_of (refusal t k e)) 0 (λ x. z (r ∙ x)) in
-        ((refused-made d bs h k e bytes n r z).0 ∙ rw (on-held, o, o), rw (on-held, o, o, o))
+    pub into-refused : (a : Answer) → Err a ≡ passed (refusal t k e) → (Err a ≡ paid (into_on bs (length next) k e)) × (next ≡ into_next bs next k e)
+    unfolding paid event into_next room_after
+    into-refused a r =
+        let q = passed-err (refusal t k e) a r in
+        let o = ne_eqb (number_of (refusal t k e)) 0 q.1 in
+        (rw (on-held, o, o, o, ← q.0), rw (on-held, o, o, o))
 
     module _ (z : number_of (refusal t k e) ≡ 0) where
       done : eqb (number_of (event t k e).answer) 0 ≡ true
       done = rw (event-done t k e z)
 
-      pub into-short : length next < length bs → (10 ≡ into_call bs (length next) k e) × (next ≡ into_next bs next k e)
-      unfolding answer_code code_of into_call into_next room_after
-      into-short l = rw (on-held, done, lt-ltb _ _ l) (omega arith, refl)
+      pub into-short : length next < length bs → (Err ShortRoom ≡ paid (into_on bs (length next) k e)) × (next ≡ into_next bs next k e)
+      unfolding paid into_next room_after
+      into-short l = rw (on-held, done, lt-ltb _ _ l) (refl, refl)
 
-      pub into-done : length bs ≤ length next → (n : ℕ) (out : List ℕ) → (n ≡ code_of (event t k e)) × (out ≡ encode (event t k e).table)
-          → (n ≡ into_call bs (length next) k e) × (out ++ drop (length bs) next ≡ into_next bs next k e)
-      unfolding into_call into_next room_after
-      into-done l n out r =
-          let m : length out ≡ length bs = next-long out r.1 in
+      pub into-done : length bs ≤ length next → (r : Result Costs Answer) (out : List ℕ) → (r ≡ paid (event t k e)) × (out ≡ encode (event t k e).table)
+          → (r ≡ paid (into_on bs (length next) k e)) × (out ++ drop (length bs) next ≡ into_next bs next k e)
+      unfolding into_next room_after
+      into-done l r out c =
+          let m : length out ≡ length bs = next-long out c.1 in
           let e = sets-eq out next 0 (omega (arith, m, l)) in
           let q : 0 + length out ≡ length bs = omega (arith, m) in
-          (r.0 ∙ rw (on-held, done, le-ltb _ _ l), rw (on-held, done, le-ltb _ _ l, done, ← r.1, ← q) (sym e))
-
--- an image copied to the start of a buffer
-pub copied : (bs next mid : List ℕ) → length bs ≤ length next → mid ≡ take (length bs) bs ++ drop (length bs) next
-    → (take (length bs) mid ≡ bs) × (drop (length bs) mid ≡ drop (length bs) next)
-copied bs next mid l e =
-    let m : mid ≡ bs ++ drop (length bs) next = e ∙ rw (take-length bs) in
-    rw m (take-append_seam bs _, drop-append_seam bs _)
+          (c.0 ∙ rw (on-held, done, le-ltb _ _ l), rw (on-held, done, le-ltb _ _ l, done, ← c.1, ← q) (sym e))
 
 -- done into another buffer: the event is done, and there is room
 module _ (bs next : List ℕ) (k e : ℕ) (done : number_of (into_on bs (length next) k e).answer ≡ 0) where
@@ -206,4 +273,4 @@ module _ (bs next : List ℕ) (k e : ℕ) (done : number_of (into_on bs (length 
       let r : sets next 0 out ≡ out ++ drop (length bs) next = rw q at (sets-eq out next 0 (omega (arith, m, made.enough))) in
       let z = eq-eqb _ _ made.number in
       let d = eq-eqb _ _ done in
-      (ap code_of made.whole, rw (d, z, r) (take_at out _ (length bs) m), rw (d, r) (drop_at out _ (length bs) m))
+      (ap Run.code_of made.whole, rw (d, z, r) (take_at out _ (length bs) m), rw (d, r) (drop_at out _ (length bs) m))

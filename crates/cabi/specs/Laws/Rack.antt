@@ -1,5 +1,5 @@
 -- Calls from a fresh image: its bytes after any calls are those of the table that as many events reach.
-use Rattle.std.specs.Prelude.{◌≡◌, Bool, ℕ, ◌+◌, ◌*◌, ◌≤◌, ◌<◌, leb, take, drop}
+use Rattle.std.specs.Prelude.{◌≡◌, Bool, ℕ, ◌+◌, ◌*◌, ◌≤◌, ◌<◌, leb, take, drop, Ok}
 use Rattle.std.proofs.Math.Path.{refl, sym, ap}
 use Rattle.std.proofs.Common.{◌∙◌, drop-drop}
 use Rattle.std.proofs.Math.Bool.{true, false, or-false, and-eq-true_iff}
@@ -27,14 +27,13 @@ use Rattle.model.specs.Layout.{head_widths, shared_widths, port_widths, port_of,
 use Rattle.layout.specs.Laws.Inside.{port-inside, copied-inside}
 use Rattle.records.specs.Laws.Rows.{value-one}
 use Rattle.image.specs.Image.{encode, decode, write_answer, written, room_after}
-use Rattle.image.specs.declared.Written.{Written}
 use Rattle.image.proofs.Laws.Promises.{write_done}
 use Rattle.image.proofs.Laws.Encoded.{length-encode}
 use Rattle.image.proofs.Laws.Held.{port-below}
 use Rattle.image.proofs.Laws.RoundTrip.{held_back, decode-encode}
 use Rattle.cabi.specs.Calls.{fresh_call, fresh_room, check_call, calls_image}
 use Rattle.cabi.specs.Laws.Calling.{calls-run}
-use Rattle.cabi.specs.Laws.Fresh.{fresh-written}
+use Rattle.cabi.specs.Laws.Fresh.{fresh-left, fresh-written}
 
 -- point and STATUS of port k are the first two bytes of its record
 module _ (t : Table) (z : Sized t) (g : good t ≡ true) (k : ℕ) (h : k < t.shared.d) where
@@ -96,13 +95,12 @@ module _ (d : ℕ) (some : 1 ≤ d) (fits : d ≤ room) where
       let next = room_after (write_answer t (length out)) t out in
       let long : length (encode t) ≡ size d = length-encode t (fresh-sized d) fits in
       let sized : size_good d ≡ true = (and-eq-true_iff (leb 1 d) (leb d room)).1 (le-leb 1 d some, le-leb d room fits) in
-      let a = fresh-written d out sized w next refl refl in
+      let left = fresh-left d out sized next refl in
       let b = write_done t out next w (fresh-sized d) (good-fresh d some fits) (omega (arith, long, h)) refl refl in
-      let n : w.length ≡ size d = ap (λ (x : Written). x.length) b.0 ∙ long in
-      let z : number_of w.answer ≡ 0 = ap (λ (x : Written). number_of x.answer) b.0 in (
-        omega (arith, a.0, n, z),
-        ap (take (size d)) (sym a.1) ∙ (rw n at b.1),
-        ap (drop (size d)) (sym a.1) ∙ (rw n at b.2),
+      let n : w ≡ Ok (size d) = b.0 ∙ ap Ok long in (
+        sym (fresh-written d out sized (size d) (sym n)),
+        ap (take (size d)) (sym left) ∙ (rw n at b.1),
+        ap (drop (size d)) (sym left) ∙ (rw n at b.2),
       )
 
   pub accepted-reached : (os : List Order) → check_call (image_after os) ≡ 0

@@ -1,5 +1,5 @@
 -- A run of calls on one image, which is checked once: what is still to do is what the definitions say of all calls.
-use Rattle.std.specs.Prelude.{◌≡◌, ℕ, ◌+◌, ◌-◌, ◌*◌, ◌≤◌, ◌<◌, length, set, drop}
+use Rattle.std.specs.Prelude.{◌≡◌, ℕ, ◌+◌, ◌-◌, ◌*◌, ◌≤◌, ◌<◌, length, set, drop, Result}
 use Rattle.std.proofs.Math.Path.{refl, ap}
 use Rattle.std.proofs.Common.{◌∙◌, add-one, eq-eqb, ne_eqb}
 use mathlib.Core.List.{List, [], ◌∷◌}
@@ -8,13 +8,16 @@ use native.Mathlib.Omega.{arith}
 use Rattle.std.proofs.Math.ListN.{get_or, length-set}
 use Rattle.std.proofs.Math.Seq.{sets}
 use Rattle.model.specs.Event.{number_of, event}
-use Rattle.model.specs.Run.{Order, orders, code_of}
+use Rattle.model.specs.declared.Answer.{Answer}
+use Rattle.model.specs.Run.{Order, orders}
+use Rattle.answers.specs.declared.Costs.{Costs}
+use Rattle.answers.specs.Verdict.{paid, code_of}
 use Rattle.lock.specs.Turns.{next-order}
 use Rattle.model.specs.Bytes.{Bytes}
 use Rattle.image.specs.Image.{held, encode, decode}
 use Rattle.cabi.specs.Calls.{check_call, event_call, event_image, calls, calls_image, run_places}
 use Rattle.cabi.specs.Laws.Acting.{Holds}
-use Rattle.cabi.specs.Laws.Calling.{code-done, event-unread, event-made, next-holds, next-long, next-bytes}
+use Rattle.cabi.specs.Laws.Calling.{code-done, event-unread, event-made, event-number, next-holds, next-long, next-bytes}
 
 -- refused by the reader: no call changes the image, and no place for an answer is changed
 module _ (bs : List ℕ) (n : ℕ) (a : n ≡ check_call bs) (z : number_of (decode bs).answer ≡ 0 → ⊥) where
@@ -42,14 +45,15 @@ module _ (xs : List ℕ) (n d : ℕ) (b₀ a₀ : List ℕ) where
   pub run-begins : Holds d b₀ → Bytes b₀ → Running xs n d b₀ a₀ 0 b₀ a₀
   run-begins h f = record { upto = omega arith; holds = h; bytes = f; size = refl; long = refl; image = rw (sub-zero n); text = rw (sub-zero n) }
 
-  pub run-turns : (i : ℕ) (b a next : List ℕ) (c : ℕ) → i < n → Running xs n d b₀ a₀ i b a
-      → (c ≡ code_of (event (held d b) (get_or xs (2 * i) 0) (get_or xs (2 * i + 1) 0))) × (next ≡ encode (event (held d b) (get_or xs (2 * i) 0) (get_or xs (2 * i + 1) 0)).table)
+  pub run-turns : (i : ℕ) (b a next : List ℕ) (r : Result Costs Answer) (c : ℕ) → i < n → Running xs n d b₀ a₀ i b a → c ≡ code_of r
+      → (r ≡ paid (event (held d b) (get_or xs (2 * i) 0) (get_or xs (2 * i + 1) 0))) × (next ≡ encode (event (held d b) (get_or xs (2 * i) 0) (get_or xs (2 * i + 1) 0)).table)
       → Running xs n d b₀ a₀ (i + 1) next (set a i c)
   unfolding calls calls_image
-  run-turns i b a next c h r q =
+  run-turns i b a next x c h r w q =
       let k = get_or xs (2 * i) 0 in
       let v = get_or xs (2 * i + 1) 0 in
-      let m = event-made d b r.holds r.bytes k v c next q in
+      let m = event-made d b r.holds r.bytes k v x next q in
+      let number : c ≡ event_call b k v = w ∙ ap code_of m.0 ∙ event-number b k v in
       record {
         upto = omega arith;
         holds = next-holds d b r.holds r.bytes k v next q.1;
@@ -58,7 +62,7 @@ module _ (xs : List ℕ) (n d : ℕ) (b₀ a₀ : List ℕ) where
         long = length-set a i c ∙ r.long;
         image = rw m.1 (rw (next-order n i xs h) at r.image);
         text =
-            rw (m.0, m.1)
+            rw (number, m.1)
             (ap (λ (j : ℕ). sets (set a i (event_call b k v)) j (calls (event_image b k v) (orders (n - (i + 1)) (drop (2 * (i + 1)) xs)))) (add-one i)
             ∙ (rw (next-order n i xs h) at r.text));
       }

@@ -15,7 +15,7 @@ use Rattle.model.specs.declared.Outcome.{Outcome}
 use Rattle.model.specs.declared.Kind.{Kind}
 use Rattle.model.specs.declared.Kind.TheVariants.{Read, Write, Add, Swap}
 use Rattle.model.specs.declared.Kind.TheVariants as Kinds
-use Rattle.model.specs.declared.Answer.TheVariants.{Done}
+use Rattle.model.specs.declared.Answer.TheVariants.{Done, NoSuchPort}
 use Rattle.model.specs.Table.{most, shared, table, port_at, copies_at, put_port}
 use Rattle.model.specs.Good.{implies, good}
 use Rattle.model.specs.Cost.{outcome, free}
@@ -135,11 +135,11 @@ module _ (t : Table) (k : ℕ) where
 
 -- what refuses an order on a good table: there is no such port, or the port's own record says it
 module _ (t : Table) (k e : ℕ) (g : good t ≡ true) where
-  pub refused-port : t.shared.d ≤ k → number_of (refusal t k e) ≡ 2
+  pub refused-port : t.shared.d ≤ k → refusal t k e ≡ NoSuchPort
   unfolding refusal first_of
   refused-port h = rw (g, le-leb t.shared.d k h)
 
-  pub refused-first : k < t.shared.d → number_of (refusal t k e) ≡ number_of (first_of (refusals e (port_at t k)))
+  pub refused-first : k < t.shared.d → refusal t k e ≡ first_of (refusals e (port_at t k))
   unfolding refusal first_of
   refused-first h = rw (g, lt-leb t.shared.d k h)
 
@@ -166,7 +166,7 @@ module _ (t : Table) (k : ℕ) (g : good t ≡ true) (h : k < t.shared.d) (z : n
   unworn = go (eqb (port_at t k).point 4) refl
     where
       go : (b : Bool) → eqb (port_at t k).point 4 ≡ b → implies b (ltb (port_at t k).made most) ≡ true
-      go true q = lt-ltb _ _ (lt_of_le-ne (port-rules t k g h).made (unrefused-step (port_at t k) (sym (refused-first t k stepping g h) ∙ z) (eqb-true _ _ q)))
+      go true q = lt-ltb _ _ (lt_of_le-ne (port-rules t k g h).made (unrefused-step (port_at t k) (ap number_of (sym (refused-first t k stepping g h)) ∙ z) (eqb-true _ _ q)))
       go false q = refl
 
   pub step-tried : tried (view_of t k) ≡ move_of t k

@@ -4,11 +4,10 @@ use Rattle.costs.proofs.charge.Goals as goal
 
 pub returns : goal.returns
 returns c =
-    let s = c in
     rw (
       c.put_copies.ensures,
       c.put_shared.ensures,
       c.fee-f.ensures,
       c.holders.ensures,
-      charge-fee s.args.u (s.args.k % 64) s.args.w s.args.q s.args.s s.args.c,
+      charge-fee c.args.u (c.args.k % 64) c.args.w c.args.q c.args.s c.args.c,
     )

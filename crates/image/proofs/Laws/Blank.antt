@@ -1,9 +1,12 @@
 -- The image of a fresh table: its head, and zeros.
-use Rattle.std.specs.Prelude.{◌≡◌, refl, Bool, true, false, ℕ, zero, suc, ◌+◌, ◌-◌, ◌*◌, ◌≤◌, ◌<◌, length, get_or, set, take, drop, replicate}
-use Rattle.std.proofs.Common.{sym, ap, ◌∙◌, zero-mul, suc-mul, add_comm, arith, get_or-drop}
-use mathlib.Core.List.{List, [], ◌∷◌, ◌++◌, map, flat_map}
-use Rattle.std.proofs.lemmas.List.Edits.{sets}
+use Rattle.std.specs.Prelude.{◌≡◌, refl, Bool, true, false, ℕ, zero, suc, ◌+◌, ◌-◌, ◌*◌, ◌≤◌, length, get_or, take, drop, replicate}
+use Rattle.std.proofs.Common.{sym, ap, ◌∙◌, zero-mul, suc-mul, add_comm, arith, get_or-drop, length-take-le, length-drop, drop-drop}
+use borrow.Rule.Slice.PartMut.{put_mid}
+use Rattle.std.proofs.lemmas.List.{length-replicate}
+use mathlib.Core.List.{List, [], ◌∷◌, ◌++◌, map, flat_map, append_assoc}
+use Rattle.std.proofs.lemmas.List.Edits.{sets, sets-eq}
 use Rattle.std.proofs.Math.Seq.{length-sets}
+use Rattle.model.specs.declared.Fault.{Fault}
 use Rattle.model.specs.Table.{room, no_port, no_copies, fresh_table, size_good}
 use Rattle.model.specs.Good.{whole, good, bad_in}
 use Rattle.model.specs.Parts.Good.{all_good}
@@ -96,9 +99,14 @@ pub fresh-bad : (d : ℕ) → size_good d ≡ false → bad_in (fresh_table d) �
 unfolding fresh_table
 fresh-bad d e = bad-whole (fresh_table d) (rw e)
 
--- one byte filled
-pub fill-turn : (l all : List ℕ) (i to : ℕ) → i < to → sets l i (zeros (to - i)) ≡ all → sets (set l i 0) (i + 1) (zeros (to - (i + 1))) ≡ all
-fill-turn l all i to h e =
-    let a : to - i ≡ suc (to - (i + 1)) = omega arith in
-    let b : i + 1 ≡ suc i = omega arith in
-    ap (λ (j : ℕ). sets (set l i 0) j (zeros (to - (i + 1)))) b ∙ (rw a at e)
+-- a fault whose fields are all 0
+pub whole-is : (kind port place : ℕ) → kind ≡ 0 → port ≡ 0 → place ≡ 0 → ◌≡◌ {A = Fault} (record { kind = kind; port = port; place = place }) whole
+whole-is kind port place a b c = rw (a, b, c)
+
+-- a part of a list that is filled with zeros
+pub part-filled : (l ys : List ℕ) (a e : ℕ) → a ≤ e → e ≤ length l → ys ≡ zeros (length (take (e - a) (drop a l))) → put_mid a (e - a) l ys ≡ sets l a (zeros (e - a))
+part-filled l ys a e h k q =
+    let m : length (take (e - a) (drop a l)) ≡ e - a = length-take-le (e - a) (drop a l) (omega (arith, length-drop a l)) in
+    let n : length (zeros (e - a)) ≡ e - a = length-replicate (e - a) 0 in
+    rw (q, m, sets-eq (zeros (e - a)) l a (omega (arith, n)), n, drop-drop (e - a) a l)
+    (sym (append_assoc (take a l) (zeros (e - a)) (drop (a + (e - a)) l)))

@@ -1,8 +1,10 @@
 -- What the promises of the functions say where the answer is DONE.
-use Rattle.std.specs.Prelude.{◌≡◌, refl, true, List, ◌++◌, ℕ, ◌+◌, ◌≤◌, length, take, drop}
+use Rattle.std.specs.Prelude.{◌≡◌, refl, true, Result, Ok, List, ◌++◌, ℕ, ◌+◌, ◌≤◌, length, take, drop}
+use Rattle.std.specs.Result.{result_unwrap_or}
 use Rattle.std.proofs.Common.{ap, ◌∙◌, arith, take_at, drop_at}
 use Rattle.std.proofs.lemmas.List.Edits.{sets-eq}
 use Rattle.model.specs.declared.Table.{Table}
+use Rattle.model.specs.declared.Answer.{Answer}
 use Rattle.model.specs.declared.Answer.TheVariants.{Done}
 use Rattle.model.specs.Table.{Sized}
 use Rattle.model.specs.Good.{good}
@@ -12,7 +14,6 @@ use Rattle.model.specs.Bytes.{Bytes}
 use Rattle.model.specs.Layout.{size, d_in, is_image}
 use Rattle.records.specs.Records.{ports_in}
 use Rattle.records.specs.Laws.Head.{image-tests}
-use Rattle.image.specs.declared.Written.{Written}
 use Rattle.image.specs.Image.{encode, held, decode, write_answer, written, room_after}
 use Rattle.image.proofs.Laws.Again.{encode-held}
 use Rattle.image.proofs.Laws.Held.{held-sized}
@@ -21,22 +22,21 @@ use Rattle.image.proofs.Laws.Reading.{accepted-image}
 use Rattle.image.proofs.Laws.Writing.{answer-done}
 
 -- a good table, and room enough: what is given, and what stands in the room then
-pub write_done : (t : Table) (out next : List ℕ) (w : Written) → Sized t → good t ≡ true → length (encode t) ≤ length out
+pub write_done : (t : Table) (out next : List ℕ) (w : Result ℕ Answer) → Sized t → good t ≡ true → length (encode t) ≤ length out
     → w ≡ written (write_answer t (length out)) t → next ≡ room_after (write_answer t (length out)) t out
-    → (w ≡ record { length = length (encode t); answer = Done })
-    × (take w.length next ≡ encode t)
-    × (drop w.length next ≡ drop w.length out)
+    → (w ≡ Ok (length (encode t)))
+    × (take (result_unwrap_or w 0) next ≡ encode t)
+    × (drop (result_unwrap_or w 0) next ≡ drop (result_unwrap_or w 0) out)
 unfolding written room_after
 write_done t out next w s g h p q =
     let l : length (encode t) ≡ size t.shared.d = length-encode t s (shared-rules t g).fits in
     let e = answer-done t (length out) g (omega (arith, l, h)) in
-    let r : w ≡ record { length = length (encode t); answer = Done } = p ∙ rw (e, l) in
-    let n : w.length ≡ length (encode t) = ap (λ (x : Written). x.length) r in
+    let r : w ≡ Ok (length (encode t)) = p ∙ rw (e, l) in
     let z : 0 + length (encode t) ≡ length (encode t) = omega arith in
     let m : next ≡ encode t ++ drop (length (encode t)) out = q ∙ rw e (rw z at (sets-eq (encode t) out 0 (omega (arith, h)))) in (
       r,
-      rw (n, m) (take_at (encode t) (drop (length (encode t)) out) (length (encode t)) refl),
-      rw (n, m) (drop_at (encode t) (drop (length (encode t)) out) (length (encode t)) refl),
+      rw (r, m) (take_at (encode t) (drop (length (encode t)) out) (length (encode t)) refl),
+      rw (r, m) (drop_at (encode t) (drop (length (encode t)) out) (length (encode t)) refl),
     )
 
 -- an image that is accepted

@@ -1,11 +1,9 @@
--- Reading as the code does it: by the check's number, and port by port into a table that is all 0.
-use Rattle.std.specs.Prelude.{◌≡◌, Bool, cond, List, [], ◌∷◌, ◌++◌, ℕ, suc, ◌+◌, ◌-◌, ◌≤◌, ◌<◌, length, get_or, set, take, replicate}
+-- Reading as the code does it: by what the check answers, and port by port into a table that is all 0.
+use Rattle.std.specs.Prelude.{◌≡◌, Bool, Ok, Err, List, [], ◌∷◌, ◌++◌, ℕ, suc, ◌+◌, ◌-◌, ◌<◌, length, get_or, set, take, replicate}
 use Rattle.std.proofs.Math.Path.{refl}
-use Rattle.std.proofs.Common.{sym, ◌∙◌, pos_of_ne-zero, add-one, arith, take-suc, length-take-le}
+use Rattle.std.proofs.Common.{sym, ◌∙◌, add-one, arith, take-suc, length-take-le}
 use Rattle.std.proofs.Math.Bool.{true, false}
 use Rattle.std.proofs.Math.Nat.{sub-zero}
-use borrow.Author.Tests.{eqb-true, eqb-false, ne_eqb}
-use Rattle.std.proofs.Math.Dec.{eqb}
 use Rattle.std.proofs.lemmas.List.{set_at}
 use Rattle.std.proofs.Math.Seq.{append_snoc}
 use Rattle.model.specs.declared.Port.{Port}
@@ -13,14 +11,15 @@ use Rattle.model.specs.declared.Copies.{Copies}
 use Rattle.model.specs.declared.Shared.{Shared}
 use Rattle.model.specs.declared.Table.{Table}
 use Rattle.model.specs.Table.{room, table, no_port, no_copies, port_at, copies_at, fresh_table}
-use Rattle.model.specs.Good.{good}
+use Rattle.model.specs.Good.{good, bad_in}
+use Rattle.model.specs.declared.Answer.{Answer}
+use Rattle.model.specs.declared.Answer.TheVariants.{Done, BadTable, BadImage}
 use Rattle.model.specs.Event.{number_of}
 use Rattle.model.specs.Bytes.{value, unpack}
 use Rattle.model.specs.Layout.{head_widths, d_in, is_image}
 use Rattle.records.specs.Records.{ports_in}
 use Rattle.records.specs.Laws.Head.{image-tests}
-use Rattle.image.specs.Image.{held, decode}
-use Rattle.image.specs.Parts.{accepted_in, answer_of, table_in, made_in}
+use Rattle.image.specs.Image.{held, refused, decode, checked}
 use Rattle.image.proofs.Laws.Held.{port-above, copies-above, held_fits, held-sized}
 use Rattle.image.proofs.Laws.Whole.{refill, tables}
 
@@ -37,44 +36,32 @@ fill-turn z l i n h =
 
 -- the reader's loop over the d ports of an image: those below i are read
 pub record Reading (bs : List ℕ) (d i : ℕ) (t : Table) : Type 0 where
-  pub upto : i ≤ d
   pub ports : t.ports ≡ filled no_port (held d bs).ports i
   pub copies : t.copies ≡ filled no_copies (held d bs).copies i
-  pub shared : t.shared ≡ (table_in d bs).shared
+  pub shared : t.shared ≡ (held d bs).shared
 
-module _ (bs : List ℕ) (d : ℕ) where
-  pub read-start : (s : Shared) → s ≡ (table_in d bs).shared → Reading bs d 0 (table (replicate room no_port) (replicate room no_copies) s)
-  read-start s e = record { upto = omega arith; ports = rw (sub-zero room); copies = rw (sub-zero room); shared = e }
+module _ (bs : List ℕ) (d : ℕ) (e : d ≡ ports_in bs) (p : 0 < d) where
+  pub read-start : (t : Table) (s : Shared) → t ≡ fresh_table 1 → s ≡ (held d bs).shared → Reading bs d 0 (table t.ports t.copies s)
+  unfolding fresh_table
+  read-start t s f g = rw f (record { ports = rw (sub-zero room); copies = rw (sub-zero room); shared = g })
 
-  pub read-turn : d ≡ ports_in bs → (i : ℕ) (t : Table) (p : Port) (c : Copies) → i < d → Reading bs d i t → p ≡ port_at (held d bs) i → c ≡ copies_at (held d bs) i
-      → Reading bs d (i + 1) (table (set t.ports i p) (set t.copies i c) t.shared)
-  read-turn e i t p c h r f g =
-      let s = held-sized bs d e (omega (arith, h)) in
-      let m = held_fits bs d e (omega (arith, h)) in
+  pub read-turn : (i : ℕ) (t : Table) (q : Port) (c : Copies) → i < d → Reading bs d i t → q ≡ port_at (held d bs) i → c ≡ copies_at (held d bs) i
+      → Reading bs d (i + 1) (table (set t.ports i q) (set t.copies i c) t.shared)
+  read-turn i t q c h r f g =
+      let s = held-sized bs d e p in
+      let m = held_fits bs d e p in
       record {
-        upto = omega arith;
         ports = rw (r.ports, f) (fill-turn no_port (held d bs).ports i s.ports (omega (arith, h, m)));
         copies = rw (r.copies, g) (fill-turn no_copies (held d bs).copies i s.copies (omega (arith, h, m)));
         shared = r.shared;
       }
 
-  pub read-end : (0 < d → d ≡ ports_in bs) → (i : ℕ) (t : Table) → d ≤ i → Reading bs d i t → t ≡ table_in d bs
-  unfolding table_in fresh_table
-  read-end e i t h r = go (eqb d 0) refl
-    where
-      all : i ≡ d
-      all = omega (arith, h, r.upto)
-
-      go : (b : Bool) → eqb d 0 ≡ b → t ≡ cond b (fresh_table 1) (held d bs)
-      go true q =
-          let z : i ≡ 0 = omega (arith, all, eqb-true d 0 q) in
-          tables t.ports _ t.copies _ t.shared _ (rw (z, sub-zero room) at r.ports) (rw (z, sub-zero room) at r.copies) (rw q at r.shared)
-      go false q =
-          let p : 0 < d = pos_of_ne-zero (eqb-false d 0 q) in
-          let s = held-sized bs d (e p) p in
-          tables t.ports _ t.copies _ t.shared _ ((rw all at r.ports) ∙ refill no_port (held d bs).ports d s.ports (λ k a b. port-above d bs k a))
-          ((rw all at r.copies) ∙ refill no_copies (held d bs).copies d s.copies (λ k a b. copies-above d bs k a))
-          (rw q at r.shared)
+  pub read-end : (t : Table) → Reading bs d d t → t ≡ held d bs
+  read-end t r =
+      let s = held-sized bs d e p in
+      tables t.ports _ t.copies _ t.shared _ (r.ports ∙ refill no_port (held d bs).ports d s.ports (λ k a b. port-above d bs k a))
+      (r.copies ∙ refill no_copies (held d bs).copies d s.copies (λ k a b. copies-above d bs k a))
+      r.shared
 
 -- byte 1 is D
 pub d-byte : (bs : List ℕ) → get_or bs 1 0 ≡ d_in bs
@@ -94,22 +81,36 @@ module _ (bs : List ℕ) where
       go true q false r = absurd (omega (arith, rw (q, r) at h))
       go false q g r = absurd (omega (arith, rw q at h))
 
-  -- its D is what the code takes; the table that is filled then, or where it is refused, is what reading gives
-  pub accepted-ports : (n : ℕ) → n ≡ number_of (decode bs).answer → 0 < accepted_in n bs → accepted_in n bs ≡ ports_in bs
-  unfolding accepted_in ports_in
-  accepted-ports n e h = go (eqb n 0) refl
+  -- what the check's result says of it, and of reading
+  pub accepted-ports : (d : ℕ) → checked bs ≡ Ok d → (d ≡ ports_in bs) × (0 < d)
+  unfolding checked decode ports_in
+  accepted-ports d e = go (is_image bs) refl (good (held (d_in bs) bs)) refl
     where
-      go : (b : Bool) → eqb n 0 ≡ b → accepted_in n bs ≡ ports_in bs
-      go true q = rw (q, (accepted-image (sym e ∙ eqb-true n 0 q)).0) (d-byte bs)
-      go false q = absurd (omega (arith, rw q at h))
-
-  pub read-ends : (n : ℕ) → n ≡ number_of (decode bs).answer → made_in (answer_of n bs) (accepted_in n bs) bs ≡ decode bs
-  unfolding decode accepted_in answer_of table_in
-  read-ends n e = go (is_image bs) refl (good (held (d_in bs) bs)) refl
-    where
-      go : (b : Bool) → is_image bs ≡ b → (g : Bool) → good (held (d_in bs) bs) ≡ g → made_in (answer_of n bs) (accepted_in n bs) bs ≡ decode bs
+      go : (b : Bool) → is_image bs ≡ b → (g : Bool) → good (held (d_in bs) bs) ≡ g → (d ≡ ports_in bs) × (0 < d)
       go true q true r =
-          let z : n ≡ 0 = e ∙ rw (q, r) in
-          rw (q, r, z, d-byte bs, ne_eqb (d_in bs) 0 (λ w. absurd (omega (arith, w, (image-tests bs q).some))))
-      go true q false r = let z : n ≡ 1 = e ∙ rw (q, r) in rw (q, r, z)
-      go false q g r = let z : n ≡ 11 = e ∙ rw q in rw (q, z)
+          let z : d_in bs ≡ d = let f : Ok (d_in bs) ≡ Ok d = rw (q, r) at e in cc in
+          (sym z ∙ rw q, omega (arith, z, (image-tests bs q).some))
+      go true q false r = let f : Err (BadTable (bad_in (held (d_in bs) bs))) ≡ Ok d = rw (q, r) at e in cc
+      go false q g r = let f : Err BadImage ≡ Ok d = rw q at e in cc
+
+  pub read-accepted : (d : ℕ) → checked bs ≡ Ok d → decode bs ≡ record { table = held d bs; answer = Done }
+  unfolding checked decode
+  read-accepted d e = go (is_image bs) refl (good (held (d_in bs) bs)) refl
+    where
+      go : (b : Bool) → is_image bs ≡ b → (g : Bool) → good (held (d_in bs) bs) ≡ g → decode bs ≡ record { table = held d bs; answer = Done }
+      go true q true r = let z : d_in bs ≡ d = let f : Ok (d_in bs) ≡ Ok d = rw (q, r) at e in cc in rw (q, r, z)
+      go true q false r = let f : Err (BadTable (bad_in (held (d_in bs) bs))) ≡ Ok d = rw (q, r) at e in cc
+      go false q g r = let f : Err BadImage ≡ Ok d = rw q at e in cc
+
+  pub read-refused : (a : Answer) → checked bs ≡ Err a → decode bs ≡ refused a
+  unfolding checked decode
+  read-refused a e = go (is_image bs) refl (good (held (d_in bs) bs)) refl
+    where
+      go : (b : Bool) → is_image bs ≡ b → (g : Bool) → good (held (d_in bs) bs) ≡ g → decode bs ≡ refused a
+      go true q true r = let f : Ok (d_in bs) ≡ Err a = rw (q, r) at e in cc
+      go true q false r = let f : Err (BadTable (bad_in (held (d_in bs) bs))) ≡ Err a = rw (q, r) at e in
+          let z : BadTable (bad_in (held (d_in bs) bs)) ≡ a = cc in
+          rw (q, r, ← z)
+      go false q g r = let f : Err BadImage ≡ Err a = rw q at e in
+          let z : BadImage ≡ a = cc in
+          rw (q, ← z)

@@ -1,20 +1,21 @@
 -- Writing as the code does it: record by record, what is still to be written gives the whole image.
-use Rattle.std.specs.Prelude.{◌≡◌, true, false, ℕ, suc, ◌+◌, ◌≤◌, ◌<◌, get_or, take, drop}
+use Rattle.std.specs.Prelude.{◌≡◌, Bool, true, false, None, Some, ℕ, suc, ◌+◌, ◌≤◌, ◌<◌, get_or, take, drop}
 use Rattle.std.proofs.Math.Path.{refl, ap}
 use Rattle.std.proofs.Common.{sym, ◌∙◌, zero-mul, arith, length-append, drop_of_length-le, drop-cons, length-take-le}
 use mathlib.Core.List.{List, [], ◌++◌, map, flat_map, append_assoc, append-nil}
 use Rattle.std.proofs.Math.Nat.{suc-mul}
 use Rattle.std.proofs.Math.Numerals.{add-one}
-use borrow.Author.Tests.{lt-ltb, le-ltb, le-leb}
+use borrow.Author.Tests.{lt-ltb, le-ltb}
 use Rattle.std.proofs.Math.ListN.{length}
 use Rattle.std.proofs.lemmas.List.Edits.{sets}
 use Rattle.std.proofs.Math.Seq.{length-sets, get_or-take}
 use Rattle.model.specs.declared.Table.{Table}
+use Rattle.model.specs.declared.Fault.{Fault}
 use Rattle.model.specs.declared.Answer.TheVariants.{Done, BadTable, ShortRoom}
-use Rattle.model.specs.Table.{room, Sized, no_port, no_copies, port_at, copies_at, size_good}
+use Rattle.model.specs.Table.{room, Sized, no_port, no_copies, port_at, copies_at}
 use Rattle.model.specs.Good.{good, bad_in}
-use Rattle.model.specs.Parts.Rules.{ports_of}
-use Rattle.model.proofs.Laws.Rules.{shared-rules}
+use Rattle.rules.specs.Found.{found}
+use Rattle.rules.specs.Finding.{found-none, found-some}
 use Rattle.model.specs.Bytes.{sum, pack}
 use Rattle.model.specs.Layout.{shared_widths, port_widths, copied_widths, copies_widths, head_widths, shared_values, port_values, copied_values, copies_values, head_values, port_place, copies_place, size}
 use Rattle.layout.specs.Laws.Records.{packs, length-pack}
@@ -64,63 +65,84 @@ module _ {A : Type 0} (f : A → List ℕ) (z : A) (ws : List ℕ) (l : List A) 
   unfolding flat_map
   row_last = rw (drop_of_length-le (take n l) {i = n} (omega (arith, long)))
 
--- what is still to be written of the image of n ports after the ports below i, and after the copy sets of those below j
-abbrev pub PortsFrom : Table → ℕ → List ℕ → List ℕ → ℕ → Type 0
-PortsFrom t n out now i =
+-- what is still to be written of an image after the ports below i, and after the copy sets of those below j
+abbrev pub PortsFrom : Table → List ℕ → List ℕ → ℕ → Type 0
+PortsFrom t out now i =
+    let d = t.shared.d in
     Writing out (encode t) now (port_place i)
-    (rows port_values port_widths t.ports n i ++ (pack (copied_widths n) (copied_values t.shared) ++ rows copies_values (copies_widths n) t.copies n 0))
+    (rows port_values port_widths t.ports d i ++ (pack (copied_widths d) (copied_values t.shared) ++ rows copies_values (copies_widths d) t.copies d 0))
 
-abbrev pub CopiesFrom : Table → ℕ → List ℕ → List ℕ → ℕ → Type 0
-CopiesFrom t n out now j = Writing out (encode t) now (copies_place n j) (rows copies_values (copies_widths n) t.copies n j ++ [])
+abbrev pub CopiesFrom : Table → List ℕ → List ℕ → ℕ → Type 0
+CopiesFrom t out now j =
+    Writing out (encode t) now (copies_place t.shared.d j) (rows copies_values (copies_widths t.shared.d) t.copies t.shared.d j ++ [])
 
--- each record of a table of n ports is written in its turn
-module _ (t : Table) (s : Sized t) (n : ℕ) (h : n ≤ room) (out : List ℕ) where
-  pub start-written : (mid now : List ℕ) → n ≡ t.shared.d → size n ≤ length out
-      → mid ≡ put_at head_widths (head_values n) 0 out → now ≡ put_at shared_widths (shared_values t.shared) (sum head_widths) mid → PortsFrom t n out now 0
+-- each record of a table is written in its turn
+module _ (t : Table) (s : Sized t) (h : t.shared.d ≤ room) (out : List ℕ) where
+  pub start-written : (mid now : List ℕ) → size t.shared.d ≤ length out
+      → mid ≡ put_at head_widths (head_values t.shared.d) 0 out → now ≡ put_at shared_widths (shared_values t.shared) (sum head_widths) mid
+      → PortsFrom t out now 0
   unfolding encode port_place
-  start-written mid now d k p q =
-      let f : length (encode t) ≤ length out = omega (arith, length-encode t s (omega (arith, d, h)), ap size d, k) in
+  start-written mid now k p q =
+      let f : length (encode t) ≤ length out = omega (arith, length-encode t s h, k) in
       put_next out (encode t) mid now (sum head_widths) (port_place 0) shared_widths (shared_values t.shared) _ (rw (zero-mul (sum port_widths)) (omega arith))
-      (put_next out (encode t) out mid 0 (sum head_widths) head_widths (head_values n) _ (omega arith)
-      (rw d (record { fits = f; long = refl; place = omega arith; text = refl }))
+      (put_next out (encode t) out mid 0 (sum head_widths) head_widths (head_values t.shared.d) _ (omega arith)
+      (record { fits = f; long = refl; place = omega arith; text = refl })
       p)
       q
 
-  pub port-written : (now next : List ℕ) (i : ℕ) → i < n → PortsFrom t n out now i → next ≡ put_at port_widths (port_values (port_at t i)) (port_place i) now
-      → PortsFrom t n out next (i + 1)
+  pub port-written : (now next : List ℕ) (i : ℕ) → i < t.shared.d → PortsFrom t out now i → next ≡ put_at port_widths (port_values (port_at t i)) (port_place i) now
+      → PortsFrom t out next (i + 1)
   unfolding port_place
   port-written now next i l w e =
       put_next out (encode t) now next (port_place i) (port_place (i + 1)) port_widths (port_values (port_at t i)) _
       (rw (add-one i) (omega (arith, suc-mul i (sum port_widths))))
-      (rw (row_first port_values no_port port_widths t.ports n (omega (arith, s.ports, h)) i l _) at w)
+      (rw (row_first port_values no_port port_widths t.ports t.shared.d (omega (arith, s.ports, h)) i l _) at w)
       e
 
-  pub copied-written : (now next : List ℕ) (i : ℕ) → i ≡ n → PortsFrom t n out now i → next ≡ put_at (copied_widths n) (copied_values t.shared) (port_place n) now
-      → CopiesFrom t n out next 0
+  pub copied-written : (now next : List ℕ) → PortsFrom t out now t.shared.d
+      → next ≡ put_at (copied_widths t.shared.d) (copied_values t.shared) (port_place t.shared.d) now → CopiesFrom t out next 0
   unfolding copies_place
-  copied-written now next i l w e =
-      put_next out (encode t) now next (port_place n) (copies_place n 0) (copied_widths n) (copied_values t.shared) _
-      (rw (zero-mul (sum (copies_widths n))) (omega arith))
-      (rw (append-nil (rows copies_values (copies_widths n) t.copies n 0))
-      (rw (row_last port_values no_port port_widths t.ports n (omega (arith, s.ports, h))) at (rw l at w)))
+  copied-written now next w e =
+      let d = t.shared.d in
+      put_next out (encode t) now next (port_place d) (copies_place d 0) (copied_widths d) (copied_values t.shared) _
+      (rw (zero-mul (sum (copies_widths d))) (omega arith))
+      (rw (append-nil (rows copies_values (copies_widths d) t.copies d 0))
+      (rw (row_last port_values no_port port_widths t.ports d (omega (arith, s.ports, h))) at w))
       e
 
-  pub copies-written : (now next : List ℕ) (j : ℕ) → j < n → CopiesFrom t n out now j
-      → next ≡ put_at (copies_widths n) (copies_values (copies_at t j)) (copies_place n j) now → CopiesFrom t n out next (j + 1)
+  pub copies-written : (now next : List ℕ) (j : ℕ) → j < t.shared.d → CopiesFrom t out now j
+      → next ≡ put_at (copies_widths t.shared.d) (copies_values (copies_at t j)) (copies_place t.shared.d j) now → CopiesFrom t out next (j + 1)
   unfolding copies_place
   copies-written now next j l w e =
-      put_next out (encode t) now next (copies_place n j) (copies_place n (j + 1)) (copies_widths n) (copies_values (copies_at t j)) _
-      (rw (add-one j) (omega (arith, suc-mul j (sum (copies_widths n)))))
-      (rw (row_first copies_values no_copies (copies_widths n) t.copies n (omega (arith, s.copies, h)) j l []) at w)
+      let d = t.shared.d in
+      put_next out (encode t) now next (copies_place d j) (copies_place d (j + 1)) (copies_widths d) (copies_values (copies_at t j)) _
+      (rw (add-one j) (omega (arith, suc-mul j (sum (copies_widths d)))))
+      (rw (row_first copies_values no_copies (copies_widths d) t.copies d (omega (arith, s.copies, h)) j l []) at w)
       e
 
-  pub all-written : (now : List ℕ) (j : ℕ) → j ≡ n → CopiesFrom t n out now j → now ≡ sets out 0 (encode t)
-  all-written now j l w = rw (row_last copies_values no_copies (copies_widths n) t.copies n (omega (arith, s.copies, h))) at (rw l at w.text)
+  pub all-written : (now : List ℕ) → CopiesFrom t out now t.shared.d → now ≡ sets out 0 (encode t)
+  all-written now w = rw (row_last copies_values no_copies (copies_widths t.shared.d) t.copies t.shared.d (omega (arith, s.copies, h))) at w.text
 
--- as many ports are written as are tested
-pub all-ports : (t : Table) (n : ℕ) → n ≡ ports_of t.shared.d → good t ≡ true → n ≡ t.shared.d
-unfolding ports_of size_good
-all-ports t n e g = e ∙ rw (le-leb 1 t.shared.d (shared-rules t g).some, le-leb t.shared.d room (shared-rules t g).fits)
+-- what the check of a table finds says whether it is good
+pub none-found : (t : Table) → found (bad_in t) ≡ None → good t ≡ true
+none-found t e = go (good t) refl
+  where
+    go : (b : Bool) → good t ≡ b → good t ≡ true
+    go true q = q
+    go false q =
+        let f : Some (bad_in t) ≡ None = sym (found-some t q) ∙ e in
+        cc
+
+pub some-found : (t : Table) (f : Fault) → found (bad_in t) ≡ Some f → (good t ≡ false) × (bad_in t ≡ f)
+some-found t f e = go (good t) refl
+  where
+    go : (b : Bool) → good t ≡ b → (good t ≡ false) × (bad_in t ≡ f)
+    go true q =
+        let n : None ≡ Some f = sym (found-none t q) ∙ e in
+        cc
+    go false q =
+        let n : Some (bad_in t) ≡ Some f = sym (found-some t q) ∙ e in
+        (q, cc)
 
 -- what writing answers
 module _ (t : Table) (n : ℕ) where

@@ -1,13 +1,12 @@
-use native.Mathlib.Omega.{arith}
-use borrow.Author.Tests.{le-leb, lt-leb}
+use Rattle.std.proofs.Common.{arith}
 use Rattle.model.specs.Bytes.{sum}
-use Rattle.model.specs.Layout.{head_widths, shared_widths, port_widths, set_width, copied_widths, copies_widths, port_place, copies_place}
+use Rattle.model.specs.Layout.{copied_widths, copies_widths}
+use Rattle.layout.specs.Laws.Inside.{three-sets, three-small}
 use Rattle.layout.proofs.copies_long.Goals as goal
 
-pub returns-then-d-le-NARROW : goal.returns-then-d-le-NARROW
-unfolding sum head_widths shared_widths port_widths set_width copied_widths copies_widths port_place copies_place
-returns-then-d-le-NARROW c = rw (le-leb _ _ c.if-d-le-NARROW.true) (omega arith)
+pub overflow_add-result : goal.overflow_add-result
+overflow_add-result c = rw c.from.ensures (omega (arith, c.set_width-set.ensures.upper_bound, three-small _ _ c.ranges.d.fits c.set_width-set.ensures.upper_bound))
 
 pub returns : goal.returns
-unfolding sum head_widths shared_widths port_widths set_width copied_widths copies_widths port_place copies_place
-returns c = rw (lt-leb _ _ c.if-d-le-NARROW.false) (omega arith)
+unfolding sum copied_widths copies_widths
+returns c = rw (c.from.ensures, c.set_width-set.ensures.value, three-sets c.args.d) (omega arith)

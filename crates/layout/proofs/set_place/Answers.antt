@@ -1,42 +1,27 @@
+use Prim.Native.Nat.{◌+◌, ◌*◌, ◌<◌}
 use native.Mathlib.Omega.{arith}
 use Rattle.layout.specs.Laws.Inside.{places-small}
 use Rattle.layout.proofs.set_place.Goals as goal
+use Rattle.layout.proofs.set_place.Goals.{After-set_width-w}
+
+-- a copy set that all share, and one of port j, stand far below the code's greatest number
+small : (c : After-set_width-w) → (c.port_place-all.result + c.set_width-w.result < 5008) × (c.copies_place-at.result + 2 * c.set_width-w.result < 11016)
+small c =
+    let h = places-small c.args.d c.args.j c.ranges.d.fits c.ranges.j.fits in
+    let w = c.set_width-w.ensures.upper_bound in
+    (omega (arith, h.0, w, c.port_place-all.ensures), omega (arith, h.1, w, c.copies_place-at.ensures))
 
 pub overflow_add-result : goal.overflow_add-result
-overflow_add-result c = let h = places-small c.args.d c.args.j c.ranges.d.fits c.ranges.j.fits in omega (arith, h.0, h.1, c.port_place-all.ensures, c.copies_place-at.ensures, c.set_width-w.ensures.upper_bound)
+overflow_add-result c = omega (arith, (small (goal.at.overflow_add-result c).After-set_width-w).1)
 
 pub overflow_add-result-in-Spin : goal.overflow_add-result-in-Spin
-overflow_add-result-in-Spin c = let h = places-small c.args.d c.args.j c.ranges.d.fits c.ranges.j.fits in omega (arith, h.0, h.1, c.port_place-all.ensures, c.copies_place-at.ensures, c.set_width-w.ensures.upper_bound)
+overflow_add-result-in-Spin c = omega (arith, (small (goal.at.overflow_add-result-in-Spin c).After-set_width-w).1)
 
 pub overflow_add-result-in-Lock : goal.overflow_add-result-in-Lock
-overflow_add-result-in-Lock c = let h = places-small c.args.d c.args.j c.ranges.d.fits c.ranges.j.fits in omega (arith, h.0, h.1, c.port_place-all.ensures, c.copies_place-at.ensures, c.set_width-w.ensures.upper_bound)
+overflow_add-result-in-Lock c = omega (arith, (small (goal.at.overflow_add-result-in-Lock c).After-set_width-w).0)
 
 pub overflow_add-result-in-CandidateGo : goal.overflow_add-result-in-CandidateGo
-overflow_add-result-in-CandidateGo c = let h = places-small c.args.d c.args.j c.ranges.d.fits c.ranges.j.fits in omega (arith, h.0, h.1, c.port_place-all.ensures, c.copies_place-at.ensures, c.set_width-w.ensures.upper_bound)
+overflow_add-result-in-CandidateGo c = omega (arith, (small (goal.at.overflow_add-result-in-CandidateGo c).After-set_width-w).1)
 
 pub overflow_add-result-in-SeenSpin : goal.overflow_add-result-in-SeenSpin
-overflow_add-result-in-SeenSpin c = let h = places-small c.args.d c.args.j c.ranges.d.fits c.ranges.j.fits in omega (arith, h.0, h.1, c.port_place-all.ensures, c.copies_place-at.ensures, c.set_width-w.ensures.upper_bound)
-
-pub returns-in-Nothing : goal.returns-in-Nothing
-returns-in-Nothing c = rw c.in-Nothing.is c.size.ensures
-
-pub returns-in-Status : goal.returns-in-Status
-returns-in-Status c = rw (c.in-Status.is, c.copies_place-at.ensures)
-
-pub returns-in-Go : goal.returns-in-Go
-returns-in-Go c = rw (c.in-Go.is, c.copies_place-at.ensures, c.set_width-w.ensures.value)
-
-pub returns-in-Spin : goal.returns-in-Spin
-returns-in-Spin c = rw (c.in-Spin.is, c.copies_place-at.ensures, c.set_width-w.ensures.value)
-
-pub returns-in-Active : goal.returns-in-Active
-returns-in-Active c = rw (c.in-Active.is, c.port_place-all.ensures)
-
-pub returns-in-Lock : goal.returns-in-Lock
-returns-in-Lock c = rw (c.in-Lock.is, c.port_place-all.ensures, c.set_width-w.ensures.value)
-
-pub returns-in-CandidateGo : goal.returns-in-CandidateGo
-returns-in-CandidateGo c = rw (c.in-CandidateGo.is, c.copies_place-at.ensures, c.set_width-w.ensures.value)
-
-pub returns-in-SeenSpin : goal.returns-in-SeenSpin
-returns-in-SeenSpin c = rw (c.in-SeenSpin.is, c.copies_place-at.ensures, c.set_width-w.ensures.value)
+overflow_add-result-in-SeenSpin c = omega (arith, (small (goal.at.overflow_add-result-in-SeenSpin c).After-set_width-w).1)

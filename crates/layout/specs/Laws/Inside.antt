@@ -1,7 +1,7 @@
 -- The records of an image lie inside it; the widths of copy sets.
 use Rattle.std.specs.Prelude.{◌≡◌, refl, Bool, true, false, [], ◌∷◌, leb}
 use Prim.Native.Nat.{ℕ, suc, ◌+◌, ◌*◌, ◌≤◌, ◌<◌}
-use Rattle.std.proofs.Math.Nat.{suc-mul, mul-le-mul_right}
+use Rattle.std.proofs.Math.Nat.{suc-mul, mul-le-mul_right, mul-le-mul_left}
 use native.Mathlib.Omega.{arith}
 use Rattle.std.proofs.Common.{le-leb}
 use Rattle.std.proofs.lemmas.Bool.{lt-leb}
@@ -56,3 +56,13 @@ places-small d k h l = go (leb d 16) refl
     go : (b : Bool) → leb d 16 ≡ b → (port_place d < 5000) × (copies_place d k < 11000)
     go true q = rw q (omega arith, omega arith)
     go false q = rw q (omega arith, omega arith)
+
+-- the copy sets of d ports, in numbers of one copy set
+pub three-sets : (k w : ℕ) → k * (3 * w) ≡ k * sum (w ∷ w ∷ w ∷ [])
+unfolding sum
+three-sets k w = let e : 3 * w ≡ w + (w + (w + 0)) = omega arith in rw e
+
+pub three-small : (k w : ℕ) → k < 256 → w ≤ 8 → k * (3 * w) ≤ 6144
+three-small k w h l =
+    let m : k * (3 * w) ≤ k * 24 = mul-le-mul_left k (omega (arith, l)) in
+    omega (arith, m, h)

@@ -5,17 +5,11 @@ use Rattle.masks.specs.Shift.{round-lt}
 use Rattle.masks.specs.Round.{lowest, higher}
 use Rattle.masks.proofs.next.Goals as goal
 
-pub overflow_cast-result : goal.overflow_cast-result
-overflow_cast-result c = omega (arith, trailing_le 64 c.args.a)
-
-pub overflow_cast-result-else-above-eq0 : goal.overflow_cast-result-else-above-eq0
-overflow_cast-result-else-above-eq0 c = omega (arith, trailing_le 64 (c.args.a / 2 ^ (c.args.o % 64) / 2))
-
 pub overflow_add-result-else-above-eq0 : goal.overflow_add-result-else-above-eq0
-overflow_add-result-else-above-eq0 c = omega (arith, round-lt c.args.o, trailing_le 64 (c.args.a / 2 ^ (c.args.o % 64) / 2))
+overflow_add-result-else-above-eq0 c = rw c.from-else-above-eq0.ensures (omega (arith, round-lt c.args.o, trailing_le 64 (c.args.a / 2 ^ (c.args.o % 64) / 2)))
 
 pub returns-then-above-eq0 : goal.returns-then-above-eq0
-returns-then-above-eq0 c = lowest (c.args.o % 64) c.args.a (round-lt c.args.o) c.ranges.a.fits c.if-above-eq0.true
+returns-then-above-eq0 c = rw c.from.ensures (lowest (c.args.o % 64) c.args.a (round-lt c.args.o) c.ranges.a.fits c.if-above-eq0.true)
 
 pub returns-else-above-eq0 : goal.returns-else-above-eq0
-returns-else-above-eq0 c = higher (c.args.o % 64) c.args.a (round-lt c.args.o) c.ranges.a.fits (pos_of_ne-zero c.if-above-eq0.false)
+returns-else-above-eq0 c = rw c.from-else-above-eq0.ensures (higher (c.args.o % 64) c.args.a (round-lt c.args.o) c.ranges.a.fits (pos_of_ne-zero c.if-above-eq0.false))

@@ -1,58 +1,36 @@
-use mathlib.Core.Path.{◌≡◌, refl, sym, ◌∙◌}
-use native.Mathlib.Omega.{arith}
-use lib.ListN.{replicate}
+use Rattle.std.proofs.Common.{sym, ap, ◌∙◌, arith, ne_eqb, get_or}
 use Rattle.model.specs.Table.{room}
 use Rattle.rules.specs.Check.{size-good-fits}
-use Rattle.model.specs.Bytes.{sum, unpack}
 use Rattle.model.specs.Layout.{head_widths}
-use Rattle.records.specs.Laws.Head.{too_short, wrong_size, wrong-length, wrong-head, right}
-use Rattle.records.specs.Laws.There.{got}
+use Rattle.records.specs.Records.{some_ports}
+use Rattle.records.specs.Laws.Head.{too_short, wrong_size, wrong-length, wrong-head, right, compared}
 use Rattle.records.proofs.ports_in.Goals as goal
 
--- the head's values
-head-got-4 : (c : goal.Then-not-size_good) → c.get_row.new.values ≡ unpack head_widths c.args.bytes.now
-unfolding head_widths
-head-got-4 c = got head_widths c.args.bytes.now (replicate 8 0) _ refl c.get_row.ensures
-
--- the head's values
-head-got-3 : (c : goal.Then-bytes-size) → c.get_row.new.values ≡ unpack head_widths c.args.bytes.now
-unfolding head_widths
-head-got-3 c = got head_widths c.args.bytes.now (replicate 8 0) _ refl c.get_row.ensures
-
--- the head's values
-head-got-2 : (c : goal.Then-same) → c.get_row.new.values ≡ unpack head_widths c.args.bytes.now
-unfolding head_widths
-head-got-2 c = got head_widths c.args.bytes.now (replicate 8 0) _ refl c.get_row.ensures
-
--- the head's values
-head-got : (c : goal.Else-same) → c.get_row.new.values ≡ unpack head_widths c.args.bytes.now
-unfolding head_widths
-head-got c = got head_widths c.args.bytes.now (replicate 8 0) _ refl c.get_row.ensures
-
 pub returns-then-bytes-lt-HEAD_SIZE : goal.returns-then-bytes-lt-HEAD_SIZE
-returns-then-bytes-lt-HEAD_SIZE c = too_short _ c.if-bytes-lt-HEAD_SIZE.true
-
-pub get_row-requires : goal.get_row-requires
-unfolding sum
-get_row-requires c = (refl, omega arith, omega (arith, c.if-bytes-lt-HEAD_SIZE.false))
+unfolding some_ports
+returns-then-bytes-lt-HEAD_SIZE c = ap some_ports (too_short _ c.if-bytes-lt-HEAD_SIZE.true)
 
 pub returns-then-not-size_good : goal.returns-then-not-size_good
-returns-then-not-size_good c = wrong_size _ _ (head-got-4 c) (sym c.size_good.ensures ∙ c.if-not-size_good.true)
+unfolding some_ports head_widths
+returns-then-not-size_good c = ap some_ports (wrong_size _ _ c.get_row-v.ensures (sym c.size_good.ensures ∙ c.if-not-size_good.true))
 
 pub overflow_cast-n : goal.overflow_cast-n
 unfolding room
 overflow_cast-n c = omega (arith, (size-good-fits _ (sym c.size_good.ensures ∙ c.if-not-size_good.false)).1)
 
 pub returns-then-bytes-size : goal.returns-then-bytes-size
-returns-then-bytes-size c = wrong-length _ _ (head-got-3 c) (λ e. c.if-bytes-size.true (e ∙ sym c.size.ensures))
+unfolding some_ports head_widths
+returns-then-bytes-size c = ap some_ports (wrong-length _ _ c.get_row-v.ensures (λ e. c.if-bytes-size.true (e ∙ sym c.size.ensures)))
 
-pub returns-then-same : goal.returns-then-same
-returns-then-same c =
-    let k = c in
-    right _ _ (head-got-2 c)
-    (sym k.size_good.ensures ∙ k.if-not-size_good.false)
-    (c.if-bytes-size.false ∙ k.size.ensures)
-    (rw (← c.head_values-head.ensures) (sym c.same.ensures ∙ c.if-same.true))
+pub returns-then-eq : goal.returns-then-eq
+unfolding some_ports head_widths
+returns-then-eq c =
+    let v = c.get_row-v in
+    let g = sym c.size_good.ensures ∙ c.if-not-size_good.false in
+    let same = sym (compared _ _ v.ensures _ c.head_values-head.ensures) ∙ sym c.eq.ensures ∙ c.if-eq.true in
+    let e = right _ _ v.ensures g (c.if-bytes-size.false ∙ c.size.ensures) same in
+    rw (← e, ne_eqb (get_or v.result 1 0) 0 (λ z. absurd (omega (arith, z, (size-good-fits _ g).0))))
 
-pub returns-else-same : goal.returns-else-same
-returns-else-same c = wrong-head _ _ (head-got c) (rw (← c.head_values-head.ensures) (sym c.same.ensures ∙ c.if-same.false))
+pub returns-else-eq : goal.returns-else-eq
+unfolding some_ports head_widths
+returns-else-eq c = ap some_ports (wrong-head _ _ c.get_row-v.ensures (sym (compared _ _ c.get_row-v.ensures _ c.head_values-head.ensures) ∙ sym c.eq.ensures ∙ c.if-eq.false))

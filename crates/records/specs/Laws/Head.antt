@@ -1,15 +1,17 @@
 -- The head of an image, looked at test by test.
-use Rattle.std.specs.Prelude.{◌≡◌, refl, Bool, true, false, cond, ◌&&◌, List, ℕ, ◌≤◌, ◌<◌, leb, length, get_or}
+use Rattle.std.specs.Prelude.{◌≡◌, refl, Bool, true, false, cond, ◌&&◌, List, ℕ, ◌≤◌, ◌<◌, leb, nat_eq, length, get_or}
 use Rattle.std.proofs.Math.Bool.{and-eq-true_iff, and-false}
-use Rattle.std.proofs.Common.{arith}
+use Rattle.std.specs.Cmp.Lexicographic.{pointwise}
+use Rattle.std.proofs.Common.{ap, ◌∙◌, arith}
 use borrow.Author.Tests.{eqb-true, eq-eqb, ne_eqb, leb-true}
 use Rattle.std.proofs.Math.Dec.{eqb}
 use Rattle.model.specs.Table.{room, size_good}
 use Rattle.model.specs.Bytes.{sum, unpack}
 use Rattle.model.specs.Layout.{head_widths, head_values, size, d_in, is_image}
 use Rattle.layout.specs.Laws.Inside.{start-inside, copied-inside}
+use Rattle.layout.specs.Laws.Records.{length-unpack}
 use Rattle.records.specs.Records.{ports_in}
-use Rattle.records.specs.Laws.Rows.{same}
+use Rattle.records.specs.Laws.Rows.{same, pointwise-same}
 
 -- the tests of an image, one by one
 pub record Image (bs : List ℕ) : Type 0 where
@@ -56,6 +58,11 @@ module _ (bs : List ℕ) where
     d-in : d_in bs ≡ get_or v 1 0
     unfolding d_in
     d-in = rw e
+
+    -- the head against the one that its D asks for, as `==` tests it
+    pub compared : (h : List ℕ) → h ≡ head_values (get_or v 1 0) → pointwise nat_eq v h ≡ same v (head_values (get_or v 1 0))
+    unfolding head_widths head_values
+    compared h q = rw q (pointwise-same v (head_values (get_or v 1 0)) (ap length e ∙ length-unpack head_widths bs))
 
     pub wrong_size : size_good (get_or v 1 0) ≡ false → 0 ≡ ports_in bs
     unfolding is_image

@@ -1,24 +1,16 @@
 -- Records as the code puts and gets them, field by field and byte by byte: one turn of each loop.
-use Rattle.std.specs.Prelude.{◌≡◌, Bool, true, ◌&&◌, ℕ, zero, suc, ◌+◌, ◌-◌, ◌*◌, ◌/◌, ◌%◌, ◌^◌, ◌≤◌, ◌<◌, leb, eqb, length, get_or, set, take, drop}
-use Rattle.std.proofs.Math.Path.{sym, ap}
-use Rattle.std.proofs.Common.{◌∙◌, lt_of_lt_of_le, pow-suc, mul_assoc, mul_comm, add-zero, add-one, arith, leb-true, length-drop, length-set, take-add, drop-cons, get_or-take, get_or-drop, drop-drop, length-take-le}
-use Rattle.std.proofs.Math.Bool.{and-true, and_assoc, and-eq-true_iff}
-use mathlib.Core.List.{List, [], ◌∷◌, ◌++◌, foldr, zip_with}
-use Rattle.std.proofs.Math.Nat.{pow-le-pow_right}
-use Rattle.std.proofs.lemmas.List.Edits.{sets}
-use Rattle.std.proofs.Math.Seq.{length-sets, drop-length}
+use Rattle.std.specs.Prelude.{◌≡◌, Bool, true, ◌&&◌, ℕ, suc, ◌+◌, ◌-◌, ◌*◌, ◌/◌, ◌%◌, ◌^◌, ◌≤◌, ◌<◌, eqb, nat_eq, length, get_or, set, take, drop}
+use Rattle.std.specs.Cmp.Lexicographic.{pointwise}
+use Rattle.std.specs.List.{push}
+use Rattle.std.specs.Int.{w16, w64, to_le_bytes, from_le_bytes}
+use Rattle.std.proofs.Math.Path.{refl, sym, ap}
+use Rattle.std.proofs.Common.{◌∙◌, lt_of_lt_of_le, pow-suc, mul_assoc, mul_comm, add-zero, add-one, arith, length-append, length-drop, length-take-le, length-set, drop-cons, drop-drop, drop_of_length-le}
+use mathlib.Core.List.{List, [], ◌∷◌, ◌++◌, foldr, zip_with, append_assoc}
+use Rattle.std.proofs.Math.Nat.{pow-le-pow_right, one-le-pow, mul-le-mul_right, mul-add}
+use Rattle.std.proofs.lemmas.List.Edits.{sets, sets-eq}
+use Rattle.std.proofs.Math.Seq.{length-sets}
 use Rattle.model.specs.Bytes.{Bytes, little, value, sum, pack, unpack}
-use Rattle.layout.specs.Laws.Digits.{bytes_drop, bytes_take, length-little, value-below, value-from}
-
--- no field is wider than the code's numbers
-abbrev pub narrow : List ℕ → Bool
-narrow [] = true
-narrow (w ∷ ws) = leb w 8 && narrow ws
-
-pub narrow_at : (ws : List ℕ) (i : ℕ) → narrow ws ≡ true → get_or ws i 0 ≤ 8
-narrow_at [] i e = omega arith
-narrow_at (w ∷ ws) zero e = leb-true w 8 ((and-eq-true_iff (leb w 8) (narrow ws)).0 e).0
-narrow_at (w ∷ ws) (suc i) e = narrow_at ws i ((and-eq-true_iff (leb w 8) (narrow ws)).0 e).1
+use Rattle.layout.specs.Laws.Digits.{length-little, value-below, value-from}
 
 -- stores one after the other
 pub sets-append : (l : List ℕ) (i : ℕ) (xs ys : List ℕ) → sets l i (xs ++ ys) ≡ sets (sets l i xs) (i + length xs) ys
@@ -27,128 +19,31 @@ sets-append l i (x ∷ xs) ys =
     let e : suc i + length xs ≡ i + suc (length xs) = omega arith in
     sets-append (set l i x) (suc i) xs ys ∙ rw e
 
--- one byte put
-pub put-turn : (room l : List ℕ) (at w x j : ℕ) → j < w → sets room (at + j) (little (w - j) x) ≡ l
-    → sets (set room (at + j) (x % 256)) (at + (j + 1)) (little (w - (j + 1)) (x / 256)) ≡ l
+-- one byte put: what is still to put is what is to be put of the whole field
+pub put-turn : (room l : List ℕ) (w x j : ℕ) → j < w → sets room j (little (w - j) x) ≡ l → sets (set room j (x % 256)) (j + 1) (little (w - (j + 1)) (x / 256)) ≡ l
 unfolding little
-put-turn room l at w x j h e =
+put-turn room l w x j h e =
     let a : w - j ≡ suc (w - (j + 1)) = omega arith in
-    let b : at + (j + 1) ≡ suc (at + j) = omega arith in
-    rw b (rw a at e)
+    ap (λ (k : ℕ). sets (set room j (x % 256)) k (little (w - (j + 1)) (x / 256))) (add-one j) ∙ (rw a at e)
 
--- one byte got, the highest first: what is got so far is the value of the bytes from j on
-module _ (bs : List ℕ) (at w : ℕ) (fits : at + w ≤ length bs) where
-  long : length (take w (drop at bs)) ≡ w
-  long = length-take-le w (drop at bs) (rw (length-drop at bs) (omega arith))
+-- two bytes, and eight, as the library gives them
+pub little-two : (v : ℕ) → to_le_bytes w16 (v % 65536) ≡ little 2 v
+unfolding little
+little-two v = let a : v % 65536 % 256 ≡ v % 256 = omega arith in let b : v % 65536 / 256 % 256 ≡ v / 256 % 256 = omega arith in rw (a, b)
 
-  pub get-start : 0 ≡ value (drop w (take w (drop at bs)))
-  unfolding value
-  get-start = sym (ap (λ (n : ℕ). value (drop n (take w (drop at bs)))) (sym long) ∙ ap value (drop-length (take w (drop at bs))))
+pub little-eight : (v : ℕ) → to_le_bytes w64 v ≡ little 8 v
+unfolding little
+little-eight v =
+    let e2 : v / 256 / 256 ≡ v / 65536 = omega arith in
+    let e3 : v / 65536 / 256 ≡ v / 16777216 = omega arith in
+    let e4 : v / 16777216 / 256 ≡ v / 4294967296 = omega arith in
+    let e5 : v / 4294967296 / 256 ≡ v / 1099511627776 = omega arith in
+    let e6 : v / 1099511627776 / 256 ≡ v / 281474976710656 = omega arith in
+    let e7 : v / 281474976710656 / 256 ≡ v / 72057594037927936 = omega arith in
+    rw (e2, e3, e4, e5, e6, e7)
 
-  pub get-turn : (j x : ℕ) → 0 < j → j ≤ w → x ≡ value (drop j (take w (drop at bs)))
-      → get_or bs (at + (j - 1)) 0 + 256 * x ≡ value (drop (j - 1) (take w (drop at bs)))
-  get-turn j x p q e =
-      let s : j - 1 + 1 ≡ j = omega arith in
-      sym
-      (value-from (take w (drop at bs)) (j - 1) (rw long (omega arith))
-      ∙ rw (get_or-take w (drop at bs) (j - 1) 0 (omega arith), get_or-drop at bs (j - 1) 0, s, ← e))
-
-  pub get-fits : Bytes bs → w ≤ 8 → (j : ℕ) → value (drop j (take w (drop at bs))) < 18446744073709551616
-  get-fits f h j =
-      lt_of_lt_of_le (value-below (drop j (take w (drop at bs))) (bytes_drop j (take w (drop at bs)) (bytes_take w (drop at bs) (bytes_drop at bs f))))
-      (pow-le-pow_right {n = 256} (omega arith) {i = length (drop j (take w (drop at bs)))} {j = 8} (rw (length-drop j (take w (drop at bs)), long) (omega arith)))
-
--- one field of a record: what is still to put is what is to be put of the whole record
-pub record Putting (ws vs : List ℕ) (at : ℕ) (room₀ room : List ℕ) (i j : ℕ) : Type 0 where
-  pub upto : j ≤ length ws
-  pub place : i + sum (drop j ws) ≡ at + sum ws
-  pub long : length room ≡ length room₀
-  pub text : sets room i (pack (drop j ws) (drop j vs)) ≡ sets room₀ at (pack ws vs)
-
-pub field_fits : (ws : List ℕ) (j : ℕ) → j < length ws → sum (drop j ws) ≡ get_or ws j 0 + sum (drop (j + 1) ws)
-unfolding sum
-field_fits ws j h = rw (drop-cons ws j 0 h, add-one j)
-
-pub put-field : (ws vs : List ℕ) (at : ℕ) (room₀ room next : List ℕ) (i j : ℕ) → j < length ws → Putting ws vs at room₀ room i j
-    → next ≡ sets room i (little (get_or ws j 0) (get_or vs j 0))
-    → Putting ws vs at room₀ next (i + get_or ws j 0) (j + 1)
-unfolding pack
-put-field ws vs at room₀ room next i j h r e =
-    let z : j + 0 ≡ j = omega arith in
-    let first : pack (drop j ws) (drop j vs) ≡ little (get_or ws j 0) (get_or vs j 0) ++ pack (drop (j + 1) ws) (drop (j + 1) vs) =
-    rw (drop-cons ws j 0 h, get_or-drop j vs 0 0, drop-drop 1 j vs, z, add-one j) in
-    record {
-      upto = omega arith;
-      place = omega (arith, r.place, field_fits ws j h);
-      long = ap length e ∙ length-sets room i (little (get_or ws j 0) (get_or vs j 0)) ∙ r.long;
-      text =
-          rw e
-          (ap (λ (n : ℕ). sets (sets room i (little (get_or ws j 0) (get_or vs j 0))) (i + n) (pack (drop (j + 1) ws) (drop (j + 1) vs)))
-          (sym (length-little (get_or ws j 0) (get_or vs j 0)))
-          ∙ sym (sets-append room i (little (get_or ws j 0) (get_or vs j 0)) (pack (drop (j + 1) ws) (drop (j + 1) vs)))
-          ∙ (rw first at r.text));
-    }
-
-pub put-end : (ws vs : List ℕ) (at : ℕ) (room₀ room : List ℕ) (i j : ℕ) → length ws ≤ j → Putting ws vs at room₀ room i j
-    → (i ≡ at + sum ws) × (room ≡ sets room₀ at (pack ws vs))
-unfolding pack sum
-put-end ws vs at room₀ room i j h r =
-    let e : j ≡ length ws = omega (arith, r.upto) in
-    let n : drop j ws ≡ [] = rw e (drop-length ws) in
-    let p : i + 0 ≡ at + sum ws = rw n at r.place in
-    (omega (arith, p), rw n at r.text)
-
--- one field of a record got
-pub record Getting (ws bs : List ℕ) (at : ℕ) (vs₀ vs : List ℕ) (i j : ℕ) : Type 0 where
-  pub upto : j ≤ length ws
-  pub place : i + sum (drop j ws) ≡ at + sum ws
-  pub long : length vs ≡ length vs₀
-  pub text : sets vs j (unpack (drop j ws) (drop i bs)) ≡ sets vs₀ 0 (unpack ws (drop at bs))
-
-pub get-field : (ws bs : List ℕ) (at : ℕ) (vs₀ vs : List ℕ) (i j x : ℕ) → j < length ws → Getting ws bs at vs₀ vs i j
-    → x ≡ value (take (get_or ws j 0) (drop i bs))
-    → Getting ws bs at vs₀ (set vs j x) (i + get_or ws j 0) (j + 1)
-unfolding unpack
-get-field ws bs at vs₀ vs i j x h r e =
-    let first : unpack (drop j ws) (drop i bs) ≡ x ∷ unpack (drop (j + 1) ws) (drop (i + get_or ws j 0) bs) =
-    rw (drop-cons ws j 0 h, e, drop-drop (get_or ws j 0) i bs, add-one j) in
-    record {
-      upto = omega arith;
-      place = omega (arith, r.place, field_fits ws j h);
-      long = length-set vs j x ∙ r.long;
-      text =
-          ap (λ (n : ℕ). sets (set vs j x) n (unpack (drop (j + 1) ws) (drop (i + get_or ws j 0) bs))) (add-one j)
-          ∙ (rw first at r.text);
-    }
-
-pub get-end : (ws bs : List ℕ) (at : ℕ) (vs₀ vs : List ℕ) (i j : ℕ) → length ws ≤ j → Getting ws bs at vs₀ vs i j
-    → vs ≡ sets vs₀ 0 (unpack ws (drop at bs))
-unfolding unpack
-get-end ws bs at vs₀ vs i j h r =
-    let e : j ≡ length ws = omega (arith, r.upto) in
-    let n : drop j ws ≡ [] = rw e (drop-length ws) in
-    rw n at r.text
-
--- two lists of numbers of one length are the same
-abbrev pub same : List ℕ → List ℕ → Bool
-same xs ys = foldr ◌&&◌ true (zip_with eqb xs ys)
-
--- one number compared
-pub same_turn : (a b : List ℕ) (ok : Bool) (i : ℕ) → length a ≡ length b → i < length a → (ok && same (drop i a) (drop i b)) ≡ same a b
-    → (ok && eqb (get_or a i 0) (get_or b i 0) && same (drop (i + 1) a) (drop (i + 1) b)) ≡ same a b
-unfolding zip_with
-same_turn a b ok i l h e =
-    let k : i < length b = omega arith in
-    rw (and_assoc ok _ _, add-one i) (rw (drop-cons a i 0 h, drop-cons b i 0 k) at e)
-
-pub same_end : (a b : List ℕ) (ok : Bool) (i : ℕ) → i ≡ length a → (ok && same (drop i a) (drop i b)) ≡ same a b → ok ≡ same a b
-unfolding zip_with
-same_end a b ok i h e =
-    let p : drop i a ≡ [] = rw h (drop-length a) in
-    sym (and-true ok) ∙ (rw p at e)
-
--- the value of a + b bytes at a place
-value-append : (xs ys : List ℕ) → value (xs ++ ys) ≡ value xs + 256 ^ length xs * value ys
+-- the value of one list after the other
+pub value-append : (xs ys : List ℕ) → value (xs ++ ys) ≡ value xs + 256 ^ length xs * value ys
 unfolding value
 value-append [] ys = omega arith
 value-append (x ∷ xs) ys =
@@ -156,32 +51,128 @@ value-append (x ∷ xs) ys =
     sym (mul_assoc 256 (256 ^ length xs) (value ys)) ∙ ap (λ (n : ℕ). n * value ys) (mul_comm 256 (256 ^ length xs) ∙ sym (pow-suc 256 (length xs))) in
     rw (value-append xs ys) (omega (arith, e))
 
-pub value-split : (bs : List ℕ) (at a b : ℕ) → at + a ≤ length bs
-    → value (take (a + b) (drop at bs)) ≡ value (take a (drop at bs)) + 256 ^ a * value (take b (drop (at + a) bs))
-value-split bs at a b h =
-    rw (take-add a b (drop at bs), drop-drop a at bs)
-    (value-append (take a (drop at bs)) (take b (drop (at + a) bs))
-    ∙ ap (λ (n : ℕ). value (take a (drop at bs)) + 256 ^ n * value (take b (drop (at + a) bs))) (length-take-le a (drop at bs) (rw (length-drop at bs) (omega (arith, h)))))
+-- one byte got, the highest first: x stands for the bytes after the others
+pub get-turn : (others : List ℕ) (b x n : ℕ) → value (push others b) + 256 ^ length (push others b) * x ≡ n → value others + 256 ^ length others * (b + 256 * x) ≡ n
+unfolding value
+get-turn others b x n e =
+    let p : 256 ^ suc (length others) ≡ 256 ^ length others * 256 = pow-suc 256 (length others) in
+    let l : length (push others b) ≡ suc (length others) = length-append others (b ∷ []) ∙ add-one (length others) in
+    let q : 256 ^ length others * (b + 256 * x) ≡ 256 ^ length others * b + 256 ^ length others * 256 * x =
+    mul-add (256 ^ length others) b (256 * x) ∙ ap (λ (m : ℕ). 256 ^ length others * b + m) (sym (mul_assoc (256 ^ length others) 256 x)) in
+    let z : value (b ∷ []) ≡ b = omega arith in
+    let f : value (push others b) ≡ value others + 256 ^ length others * b =
+    value-append others (b ∷ []) ∙ ap (λ (m : ℕ). value others + 256 ^ length others * m) z in
+    let d : value others + 256 ^ length others * b + 256 ^ length others * 256 * x ≡ n = rw (f, l, p) at e in
+    omega (arith, q, d)
+
+pub get-fits : (others : List ℕ) (y n m : ℕ) → value others + 256 ^ length others * y ≡ n → n < m → y < m
+get-fits others y n m e h =
+    let one : 1 * y ≤ 256 ^ length others * y = mul-le-mul_right y (one-le-pow (length others) 256 (omega arith)) in
+    omega (arith, one, e, h)
+
+pub field-below : (bs : List ℕ) → Bytes bs → length bs ≤ 8 → value bs < 18446744073709551616
+field-below bs f h = lt_of_lt_of_le (value-below bs f) (pow-le-pow_right {n = 256} (omega arith) {i = length bs} {j = 8} h)
+
+-- no byte is left
+pub get-last : (others : List ℕ) (x n : ℕ) → length others ≡ 0 → value others + 256 ^ length others * x ≡ n → x ≡ n
+unfolding value
+get-last [] x n h e = omega (arith, e)
+get-last (b ∷ others) x n h e = absurd (omega (arith, h))
+
+-- two bytes, and eight, as the library reads them
+no-more : (bs : List ℕ) (n : ℕ) → length bs ≡ n → value (drop n bs) ≡ 0
+unfolding value
+no-more bs n h = ap value (drop_of_length-le bs (omega (arith, h)))
+
+pub value-two : (bs : List ℕ) → length bs ≡ 2 → from_le_bytes w16 bs ≡ value bs
+value-two bs h = omega (arith, value-from bs 0 (omega (arith, h)), value-from bs 1 (omega (arith, h)), no-more bs 2 h)
+
+pub value-eight : (bs : List ℕ) → length bs ≡ 8 → from_le_bytes w64 bs ≡ value bs
+value-eight bs h =
+    omega (
+      arith,
+      value-from bs 0 (omega (arith, h)),
+      value-from bs 1 (omega (arith, h)),
+      value-from bs 2 (omega (arith, h)),
+      value-from bs 3 (omega (arith, h)),
+      value-from bs 4 (omega (arith, h)),
+      value-from bs 5 (omega (arith, h)),
+      value-from bs 6 (omega (arith, h)),
+      value-from bs 7 (omega (arith, h)),
+      no-more bs 8 h,
+    )
 
 -- one byte
 pub value-one : (bs : List ℕ) (at : ℕ) → at < length bs → value (take 1 (drop at bs)) ≡ get_or bs at 0
 unfolding value
 value-one bs at h = rw (drop-cons bs at 0 h) (omega arith)
 
--- two, four and eight bytes from their halves
-pub value-two : (bs : List ℕ) (at x y : ℕ) → at + 2 ≤ length bs → x ≡ get_or bs at 0 → y ≡ get_or bs (at + 1) 0 → x + 256 * y ≡ value (take 2 (drop at bs))
-value-two bs at x y h p q =
-    let e = value-split bs at 1 1 (omega (arith, h)) in
-    omega (arith, e, value-one bs at (omega (arith, h)), value-one bs (at + 1) (omega (arith, h)), p, q)
+-- one field of a record: what is still to put is what is to be put of the whole record
+pub record Putting (ws vs : List ℕ) (i : ℕ) (room done : List ℕ) : Type 0 where
+  pub even : length ws ≡ length vs
+  pub fits : i + sum ws ≤ length room
+  pub text : sets room i (pack ws vs) ≡ done
 
-pub value-four : (bs : List ℕ) (at x y : ℕ) → at + 4 ≤ length bs → x ≡ value (take 2 (drop at bs)) → y ≡ value (take 2 (drop (at + 2) bs))
-    → x + 65536 * y ≡ value (take 4 (drop at bs))
-value-four bs at x y h p q =
-    let e = value-split bs at 2 2 (omega (arith, h)) in
-    omega (arith, e, p, q)
+pub put-field : (w v : ℕ) (ws vs : List ℕ) (i : ℕ) (room field done : List ℕ) → Putting (w ∷ ws) (v ∷ vs) i room done → field ≡ little (length (take (i + w - i) (drop i room))) v
+    → Putting ws vs (i + w) (take i room ++ (field ++ drop (i + w - i) (drop i room))) done
+unfolding pack sum
+put-field w v ws vs i room field done r e =
+    let n : i + w - i ≡ w = omega arith in
+    let m : length (take (i + w - i) (drop i room)) ≡ w = rw n (length-take-le w (drop i room) (rw (length-drop i room) (omega (arith, r.fits)))) in
+    let f : field ≡ little w v = rw m at e in
+    let l = length-little w v in
+    let s : take i room ++ (little w v ++ drop w (drop i room)) ≡ sets room i (little w v) =
+    ap (λ (k : List ℕ). take i room ++ (little w v ++ k)) (drop-drop w i room ∙ ap (λ (k : ℕ). drop (i + k) room) (sym l))
+    ∙ sym (append_assoc (take i room) (little w v) (drop (i + length (little w v)) room))
+    ∙ sym (sets-eq (little w v) room i (rw l (omega (arith, r.fits)))) in
+    rw (n, f, s)
+    record {
+      even = omega (arith, r.even);
+      fits = rw (length-sets room i (little w v)) (omega (arith, r.fits));
+      text = ap (λ (k : ℕ). sets (sets room i (little w v)) (i + k) (pack ws vs)) (sym l) ∙ sym (sets-append room i (little w v) (pack ws vs)) ∙ r.text;
+    }
 
-pub value-eight : (bs : List ℕ) (at x y : ℕ) → at + 8 ≤ length bs → x ≡ value (take 4 (drop at bs)) → y ≡ value (take 4 (drop (at + 4) bs))
-    → x + 4294967296 * y ≡ value (take 8 (drop at bs))
-value-eight bs at x y h p q =
-    let e = value-split bs at 4 4 (omega (arith, h)) in
-    omega (arith, e, p, q)
+pub put-end : (ws vs : List ℕ) (i : ℕ) (room done : List ℕ) → length ws ≡ 0 → Putting ws vs i room done → room ≡ done
+unfolding pack
+put-end [] vs i room done h r = r.text
+put-end (w ∷ ws) vs i room done h r = absurd (omega (arith, h))
+
+-- one field of a record got
+pub record Getting (ws : List ℕ) (i : ℕ) (vs rest done : List ℕ) : Type 0 where
+  pub long : length vs ≡ length ws
+  pub fits : sum (drop i ws) ≤ length rest
+  pub text : sets vs i (unpack (drop i ws) rest) ≡ done
+
+pub field_fits : (ws : List ℕ) (i : ℕ) → i < length ws → sum (drop i ws) ≡ get_or ws i 0 + sum (drop (i + 1) ws)
+unfolding sum
+field_fits ws i h = rw (drop-cons ws i 0 h, add-one i)
+
+pub get-field : (ws : List ℕ) (i : ℕ) (vs rest done next : List ℕ) (x : ℕ) → i < length ws → Getting ws i vs rest done
+    → x ≡ value (take (get_or ws i 0) rest) → next ≡ drop (get_or ws i 0) rest
+    → Getting ws (i + 1) (set vs i x) next done
+unfolding unpack
+get-field ws i vs rest done next x h r e n =
+    let first : unpack (drop i ws) rest ≡ x ∷ unpack (drop (i + 1) ws) next = rw (drop-cons ws i 0 h, e, n, add-one i) in
+    record {
+      long = length-set vs i x ∙ r.long;
+      fits = rw (n, length-drop (get_or ws i 0) rest) (omega (arith, r.fits, field_fits ws i h));
+      text = ap (λ (k : ℕ). sets (set vs i x) k (unpack (drop (i + 1) ws) next)) (add-one i) ∙ (rw first at r.text);
+    }
+
+pub get-end : (ws : List ℕ) (i : ℕ) (vs rest done : List ℕ) → length ws ≤ i → Getting ws i vs rest done → vs ≡ done
+unfolding unpack
+get-end ws i vs rest done h r =
+    let n : drop i ws ≡ [] = drop_of_length-le ws h in
+    rw n at r.text
+
+-- two lists of numbers of one length are the same
+abbrev pub same : List ℕ → List ℕ → Bool
+same xs ys = foldr ◌&&◌ true (zip_with eqb xs ys)
+
+-- as `==` says it of lists of one length
+pub pointwise-same : (xs ys : List ℕ) → length xs ≡ length ys → pointwise nat_eq xs ys ≡ same xs ys
+unfolding zip_with
+pointwise-same [] [] h = refl
+pointwise-same [] (y ∷ ys) h = absurd (omega (arith, h))
+pointwise-same (x ∷ xs) [] h = absurd (omega (arith, h))
+pointwise-same (x ∷ xs) (y ∷ ys) h = ap (λ (b : Bool). nat_eq x y && b) (pointwise-same xs ys (omega (arith, h)))

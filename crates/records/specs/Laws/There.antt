@@ -1,7 +1,8 @@
 -- What is read of a record that the bytes have, and of one that they end before.
-use Rattle.std.specs.Prelude.{◌≡◌, Bool, List, [], ◌∷◌, ◌++◌, ℕ, ◌+◌, ◌-◌, ◌≤◌, ◌<◌, length, drop}
+use Rattle.std.specs.Prelude.{◌≡◌, Bool, List, [], ◌∷◌, ◌++◌, ℕ, ◌+◌, ◌-◌, ◌≤◌, ◌<◌, length, take, drop}
 use Rattle.std.proofs.Math.Path.{refl}
-use Rattle.std.proofs.Common.{sym, ap, ◌∙◌, append-nil, arith, leb-true, leb-false, le-leb, drop_of_length-le}
+use Rattle.std.proofs.Common.{sym, ap, ◌∙◌, append-nil, drop_of_length-le, arith, length-drop, leb-true, leb-false, le-leb}
+use Rattle.std.proofs.Math.Seq.{take-length}
 use Rattle.std.proofs.Math.Bool.{true, false}
 use Rattle.std.proofs.Math.Nat.{one-le-pow}
 use Rattle.std.proofs.lemmas.Bool.{lt-leb}
@@ -12,7 +13,7 @@ use Rattle.std.proofs.lemmas.List.Edits.{sets, sets-eq}
 use Rattle.model.specs.Bytes.{Bytes, sum, pack, unpack}
 use Rattle.layout.specs.Laws.Digits.{bytes_drop}
 use Rattle.layout.specs.Laws.Records.{Fits, length-unpack, unpack-fits, unpack-packed}
-use Rattle.records.specs.Records.{there, put_at}
+use Rattle.records.specs.Records.{there, put_at, filled}
 
 -- whether a record of so many bytes lies inside, as the code tests it
 pub past_end : (bytes at long : ℕ) → bytes < long → leb (at + long) bytes ≡ false
@@ -24,6 +25,10 @@ before-end bytes at long h = go (leb (at + long) bytes) refl
     go : (b : Bool) → leb (at + long) bytes ≡ b → leb at (bytes - long) ≡ b
     go true e = le-leb at (bytes - long) (omega (arith, h, leb-true (at + long) bytes e))
     go false e = lt-leb at (bytes - long) (omega (arith, h, leb-false (at + long) bytes e))
+
+-- the bytes from a place on, as a slice of them to their end
+pub rest-all : (at : ℕ) (bs : List ℕ) → take (length bs - at) (drop at bs) ≡ drop at bs
+rest-all at bs = rw (← length-drop at bs) (take-length (drop at bs))
 
 -- a record that lies inside the bytes
 pub there-inside : (ws : List ℕ) (at : ℕ) (bs : List ℕ) → at + sum ws ≤ length bs → there ws at bs ≡ unpack ws (drop at bs)
@@ -60,9 +65,9 @@ zeros-fit (w ∷ ws) = (one-le-pow w 256 (omega arith), zeros-fit ws)
 
 -- what a function makes of a record, where it makes the same of zeros as of no values: of the values as they are, and as their widths keep them
 module _ {A : Type 0} (of : List ℕ → A) (ws : List ℕ) (none : of (replicate (length ws) 0) ≡ of []) (at : ℕ) (bs v : List ℕ)
-    (e : v ≡ sets (replicate (length ws) 0) 0 (there ws at bs)) where
+    (e : v ≡ filled (length ws) (there ws at bs)) where
   pub made : of v ≡ of (there ws at bs)
-  unfolding there
+  unfolding there filled
   made = go (leb (at + sum ws) (length bs)) refl
     where
       go : (b : Bool) → leb (at + sum ws) (length bs) ≡ b → of v ≡ of (there ws at bs)
@@ -70,7 +75,7 @@ module _ {A : Type 0} (of : List ℕ → A) (ws : List ℕ) (none : of (replicat
       go false q = rw q (ap of (rw q at e) ∙ none)
 
   pub kept : Bytes bs → of (unpack ws (pack ws v)) ≡ of (there ws at bs)
-  unfolding there
+  unfolding there filled
   kept f = go (leb (at + sum ws) (length bs)) refl
     where
       go : (b : Bool) → leb (at + sum ws) (length bs) ≡ b → of (unpack ws (pack ws v)) ≡ of (there ws at bs)

@@ -1,10 +1,10 @@
-use Rattle.std.proofs.Common.{length, ◌-◌, ◌≡◌, ◌≤◌, drop}
+use Rattle.std.proofs.Common.{length, ◌≡◌}
 use Rattle.listing.specs.Took.{took}
 use Rattle.schedule.proofs.feed_all.Given as goal
 
 -- what is left of the piece is always still to be taken
-abbrev pub invariant-loop-at : goal.invariant-loop-at
-invariant-loop-at g l = (l.at ≤ length l.piece) × (took l.fn.run l.piece ≡ took l.now (drop l.at l.piece))
+abbrev pub invariant-loop-rest : goal.invariant-loop-rest
+invariant-loop-rest g l = took l.fn.run l.piece ≡ took l.now l.rest
 
-abbrev pub decreases-loop-at : goal.decreases-loop-at
-decreases-loop-at g l = length l.piece - l.at
+abbrev pub decreases-loop-rest : goal.decreases-loop-rest
+decreases-loop-rest g l = length l.rest

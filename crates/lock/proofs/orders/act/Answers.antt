@@ -1,17 +1,13 @@
-use mathlib.Core.Path.{sym, ap, ◌∙◌}
-use Prim.Native.Nat.{ℕ}
-use Rattle.lock.specs.Parts.{kept}
+use mathlib.Core.Path.{sym, ◌∙◌}
+use Rattle.lock.specs.Ready.{passed-ok, passed-err}
 use Rattle.lock.specs.Acted.{act-refused}
 use Rattle.lock.proofs.orders.act.Goals as goal
 
-pub returns-then-number-ne0 : goal.returns-then-number-ne0
-returns-then-number-ne0 c =
-    let a = c.args in
-    let e = c.first-number.ensures in
-    ap (λ (n : ℕ). kept a.own a.s a.c n) e ∙ act-refused a.u a.s a.k a.event a.own a.q a.c (λ z. c.if-number-ne0.true (e ∙ z))
-
 pub carried-requires : goal.carried-requires
-carried-requires c = sym c.first-number.ensures ∙ c.if-number-ne0.false
+carried-requires c = passed-ok _ _ (sym c.in-Ok.is ∙ c.first.ensures)
 
-pub returns : goal.returns
-returns c = c.carried.ensures
+pub returns-in-Err : goal.returns-in-Err
+returns-in-Err c =
+    let r = c.args.reach in
+    let q = passed-err _ _ (sym c.in-Err.is ∙ c.first.ensures) in
+    rw (c.kept.ensures, q.0) (act-refused r.touch r.shared r.port c.args.event r.own r.touched r.copies q.1)

@@ -21,15 +21,11 @@ returns-then-v-eq0 c two e = rw (eq-eqb c.args.v.active 0 c.if-v-eq0.true, e)
 returns-then-v-eq0 c three e = absurd (c.if-x-eq30.false e)
 returns-then-v-eq0 c four e = rw (eq-eqb c.args.v.active 0 c.if-v-eq0.true, e)
 
-pub overflow_cast-j : goal.overflow_cast-j
-overflow_cast-j c =
-    let k = c in
-    let s = k.requires.0 in
-    rw (ringed s c.if-v-eq0.false _ c.next-j.ensures) (omega (arith, next-below k.args.v.active s.seen, s.ports))
+pub overflow_cast-work-2 : goal.overflow_cast-work-2
+overflow_cast-work-2 c =
+    rw (ringed c.requires.0 c.if-v-eq0.false _ c.next.ensures) (omega (arith, next-below c.args.v.active c.requires.0.seen, c.requires.0.ports))
 
 pub returns : goal.returns
 unfolding step
 returns c y e =
-    let k = c in
-    let n = c.if-v-eq0.false in
-    rw (ne_eqb k.args.v.active 0 n, ringed k.requires.0 n _ c.next-j.ensures, e)
+    rw (ne_eqb c.args.v.active 0 c.if-v-eq0.false, ringed c.requires.0 c.if-v-eq0.false _ c.next.ensures, e)

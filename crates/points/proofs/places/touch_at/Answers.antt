@@ -1,9 +1,12 @@
-use mathlib.Core.Path.{sym}
-use Rattle.points.specs.Places.{touch-table, touch-beyond}
+use Rattle.std.proofs.Common.{◌∙◌, ap, le_refl}
+use Rattle.std.specs.Option.{unwrap_or}
+use Rattle.model.specs.Parts.Charges.{untouched}
+use Rattle.points.specs.Places.{touch-table}
 use Rattle.points.proofs.places.touch_at.Goals as goal
 
-pub returns-then-n-lt-POINTS : goal.returns-then-n-lt-POINTS
-returns-then-n-lt-POINTS c = cc (touch-table c.args.n c.if-n-lt-POINTS.true)
-
-pub returns-else-n-lt-POINTS : goal.returns-else-n-lt-POINTS
-returns-else-n-lt-POINTS c = sym (touch-beyond c.args.n c.if-n-lt-POINTS.false)
+pub returns : goal.returns
+returns c =
+    c.unwrap_or.ensures
+    ∙ ap (λ o. unwrap_or o untouched) c.copied.ensures
+    ∙ c.get.ensures.lookup.4 (le_refl c.args.n) untouched
+    ∙ touch-table c.args.n

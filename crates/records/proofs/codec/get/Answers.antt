@@ -1,7 +1,9 @@
+use Rattle.std.proofs.Common.{arith, ◌∙◌}
+use Rattle.records.specs.Laws.Rows.{value-two, value-eight}
 use Rattle.records.proofs.codec.get.Goals as goal
 
-pub returns-then-w-eq2 : goal.returns-then-w-eq2
-returns-then-w-eq2 c = rw c.if-w-eq2.true c.get_two.ensures.0
+pub returns-in-len2 : goal.returns-in-len2
+returns-in-len2 c = c.from.ensures ∙ c.from_le_bytes.ensures ∙ value-two _ (omega (arith, c.in-len2.len_at_least, c.in-len2.len_below))
 
-pub returns-then-w-eq8 : goal.returns-then-w-eq8
-returns-then-w-eq8 c = rw c.if-w-eq8.true c.get_eight.ensures
+pub returns-in-len8 : goal.returns-in-len8
+returns-in-len8 c = c.from_le_bytes-in-len8.ensures ∙ value-eight _ (omega (arith, c.in-len8.len_at_least, c.in-len8.len_below))

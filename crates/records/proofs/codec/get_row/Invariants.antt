@@ -1,10 +1,6 @@
-use Prim.Native.Nat.{◌-◌}
-use lib.ListN.{length}
+use Rattle.model.specs.Bytes.{unpack}
 use Rattle.records.specs.Laws.Rows.{Getting}
 use Rattle.records.proofs.codec.get_row.Given as goal
 
-abbrev pub invariant-loop-j : goal.invariant-loop-j
-invariant-loop-j l = Getting l.widths l.bytes l.at l.initial.values l.values l.i l.j
-
-abbrev pub decreases-loop-j : goal.decreases-loop-j
-decreases-loop-j l = length l.widths - l.j
+abbrev pub invariant-loop-i : goal.invariant-loop-i
+invariant-loop-i g l = Getting l.form.widths l.i l.values l.rest (unpack l.form.widths l.bytes)

@@ -1,10 +1,7 @@
-use Prim.Native.Nat.{◌-◌}
-use lib.ListN.{length}
+use Rattle.std.proofs.lemmas.List.Edits.{sets}
+use Rattle.model.specs.Bytes.{pack}
 use Rattle.records.specs.Laws.Rows.{Putting}
 use Rattle.records.proofs.codec.put_row.Given as goal
 
-abbrev pub invariant-loop-j : goal.invariant-loop-j
-invariant-loop-j l = Putting l.widths l.values l.at l.initial.room l.room l.i l.j
-
-abbrev pub decreases-loop-j : goal.decreases-loop-j
-decreases-loop-j l = length l.widths - l.j
+abbrev pub invariant-loop-w : goal.invariant-loop-w
+invariant-loop-w g l = Putting l.w-iterator.a.rest.now l.w-iterator.b.rest.now l.i l.room (sets l.initial.room l.at (pack l.widths l.values))

@@ -1,26 +1,24 @@
-use Prim.Native.Nat.{◌*◌, ◌≤◌}
+use Prim.Native.Nat.{◌+◌, ◌*◌, ◌≤◌, ◌<◌}
 use native.Mathlib.Nat.{mul-le-mul}
 use native.Mathlib.Omega.{arith}
 use Rattle.layout.specs.Laws.Inside.{places-small}
 use Rattle.rules.proofs.faults.copies_field.Goals as goal
+use Rattle.rules.proofs.faults.copies_field.Goals.{After-set_width}
+
+-- the place of the copy set is far below the code's greatest number
+small : (c : After-set_width) → c.copies_place.result + c.args.before * c.set_width.result < 12000
+small c =
+    let w : c.args.before * c.set_width.result ≤ 2 * 8 = mul-le-mul c.requires c.set_width.ensures.upper_bound in
+    omega (arith, w, c.copies_place.ensures, (places-small c.args.d c.args.k c.ranges.d.fits c.ranges.k.fits).1)
 
 pub overflow_mul-at : goal.overflow_mul-at
-overflow_mul-at c =
-    let s = c in
-    let w : s.args.before * c.set_width.result ≤ 2 * 8 = mul-le-mul s.requires c.set_width.ensures.upper_bound in
-    omega (arith, w)
+overflow_mul-at c = omega (arith, small (goal.at.overflow_mul-at c).After-set_width)
 
 pub overflow_add-at : goal.overflow_add-at
-overflow_add-at c =
-    let s = c in
-    let w : s.args.before * c.set_width.result ≤ 2 * 8 = mul-le-mul s.requires c.set_width.ensures.upper_bound in
-    omega (arith, w, c.copies_place.ensures, (places-small s.args.d s.args.k s.ranges.d.fits s.ranges.k.fits).1)
+overflow_add-at c = omega (arith, small (goal.at.overflow_add-at c).After-set_width)
 
 pub overflow_cast-result : goal.overflow_cast-result
-overflow_cast-result c =
-    let s = c in
-    let w : s.args.before * c.set_width.result ≤ 2 * 8 = mul-le-mul s.requires c.set_width.ensures.upper_bound in
-    omega (arith, w, c.copies_place.ensures, (places-small s.args.d s.args.k s.ranges.d.fits s.ranges.k.fits).1)
+overflow_cast-result c = omega (arith, small (goal.at.overflow_cast-result c).After-set_width)
 
 pub returns : goal.returns
 returns c = rw (c.copies_place.ensures, c.set_width.ensures.value)

@@ -1,57 +1,33 @@
-use Rattle.std.proofs.Common.{rules}
-use mathlib.Core.Path.{◌≡◌, refl, sym, ap, ◌∙◌}
+use mathlib.Core.Path.{◌≡◌, sym, ap, ◌∙◌}
 use mathlib.Core.Bool.{true, false, ◌&&◌, and-eq-true_iff}
-use native.Mathlib.Omega.{arith}
+use mathlib.Core.List.{List, foldl}
+use Rattle.model.specs.declared.Fault.{Fault}
 use Rattle.model.specs.Table.{room, size_good}
-use Rattle.model.specs.Bytes.{sum}
-use Rattle.model.specs.Layout.{head_widths, shared_widths, port_widths, copied_widths, port_place}
-use Rattle.model.specs.Good.{fault, shared_rules}
+use Rattle.model.specs.Good.{Rule, fault, lower, nowhere}
 use Rattle.model.proofs.Laws.Faults.{whole-first}
 use Rattle.rules.specs.Check.{size-good-fits}
-use Rattle.rules.specs.Faults.{lowered, first, second, sound-start}
+use Rattle.rules.specs.Faults.{zeros, after-start}
 use Rattle.rules.proofs.faults.shared_fault.Goals as goal
+use Rattle.rules.proofs.faults.shared_fault.Goals.{After-default-2}
 
--- the size is good and the room empty, or not both
-unsound : (c : goal.Then-not-size_good-empty) → (size_good c.args.s.d && c.args.empty) ≡ false
-unsound c = rw (sym c.size_good.ensures) (c.if-not-size_good-empty.true)
-
-sized-2 : (c : goal.After-struct_known-1) → (size_good c.args.s.d && c.args.empty) ≡ true
-sized-2 c = rw (sym c.size_good.ensures) (c.if-not-size_good-empty.false)
-
-sized : (c : goal.After-lower) → (size_good c.args.s.d && c.args.empty) ≡ true
-sized c = rw (sym c.size_good.ensures) (c.if-not-size_good-empty.false)
+-- D is in range and the room above it is empty
+whole : (c : After-default-2) → (size_good c.args.s.d && c.args.empty) ≡ true
+whole c = rw (sym c.size_good.ensures) (c.if-not-size_good-empty.false)
 
 pub returns-then-not-size_good-empty : goal.returns-then-not-size_good-empty
-returns-then-not-size_good-empty c = sym (whole-first c.args.empty c.args.s c.args.ownermade (unsound c))
+returns-then-not-size_good-empty c =
+    let e : (size_good c.args.s.d && c.args.empty) ≡ false = rw (sym c.size_good.ensures) (c.if-not-size_good-empty.true) in
+    zeros _ c.default.ensures ∙ sym (whole-first c.args.empty c.args.s c.args.ownermade e)
 
-pub overflow_cast-d : goal.overflow_cast-d
+pub shared_rules-requires : goal.shared_rules-requires
 unfolding room
-overflow_cast-d c =
-    let e = c in
-    let a = e.args in
-    record { fits = omega (arith, (size-good-fits a.s.d ((and-eq-true_iff (size_good a.s.d) a.empty).0 (sized-2 e)).0).1) }
+shared_rules-requires c =
+    (size-good-fits c.args.s.d ((and-eq-true_iff (size_good c.args.s.d) c.args.empty).0 (whole (goal.at.shared_rules-requires c).After-default-2)).0).1
 
 pub returns : goal.returns
-unfolding sum head_widths shared_widths port_widths copied_widths shared_rules
 returns c =
-    let e = c in
-    let a = e.args in
-    (lowered (lowered (lowered (lowered (lowered (lowered (sound-start (size_good a.s.d) a.empty (sized e))
-    c.lower-a.ensures
-    c.within.ensures
-    c.shared_field.ensures)
-    c.lower-b.ensures
-    refl
-    c.shared_field-2.ensures)
-    c.lower-c.ensures
-    refl
-    c.shared_field-3.ensures)
-    c.lower-e.ensures
-    c.spin_good.ensures
-    (search rules))
-    c.lower-g.ensures
-    c.within-2.ensures
-    (c.copied_field.ensures ∙ ap (fault 4 a.s.d) (first a.s.d (port_place a.s.d))))
-    c.lower.ensures
-    c.within-3.ensures
-    (c.copied_field-2.ensures ∙ ap (fault 4 a.s.d) (second a.s.d (port_place a.s.d))))
+    let z : fault c.default-2.result.kind c.default-2.result.port 65535 ≡ nowhere = rw (c.default-2.ensures.0, c.default-2.ensures.1.0) in
+    c.lowest.ensures
+    ∙ ap (λ (f : Fault). foldl lower f c.shared_rules.result) z
+    ∙ ap (λ (rs : List Rule). foldl lower nowhere rs) c.shared_rules.ensures
+    ∙ after-start c.args.empty c.args.s c.args.ownermade (whole (goal.at.returns c).After-default-2)

@@ -6,14 +6,13 @@ use Rattle.rules.proofs.good.seen_good.Goals as goal
 pub returns : goal.returns
 unfolding seen_tests
 returns c =
-    let s = c in
     simp (
       c.has-2.ensures,
       c.has.ensures,
-      c.wide-2.ensures,
-      c.wide.ensures,
-      candidate-table s.args.point,
-      candidate-spin-table s.args.point,
+      c.from-2.ensures,
+      c.from.ensures,
+      candidate-table c.args.point,
+      candidate-spin-table c.args.point,
       not-not,
       or-false,
       or_assoc,

@@ -1,19 +1,11 @@
--- The digits counted and those of what is left are one more than those of n: a turn counts one and leaves a tenth, which is less.
-use native.Mathlib.Omega.{arith}
-use Rattle.text.specs.Laws.Decimal.{digits-fit, count-one, count_next}
+use Rattle.std.proofs.Common.{sym, arith}
+use Rattle.text.specs.Laws.Decimal.{count-between, digits-one}
 use Rattle.text.proofs.putting.digits.Goals as goal
 
-pub loop-x-init : goal.loop-x-init
-loop-x-init c = omega arith
+pub returns-in-Some : goal.returns-in-Some
+returns-in-Some c =
+    let b = c.checked_ilog10.ensures in
+    sym (count-between c.in-Some.k c.args.n (rw c.in-Some.is at b.power_le) (rw c.in-Some.is at b.next_power_gt))
 
-pub overflow_add-c : goal.overflow_add-c
-overflow_add-c c = omega (arith, digits-fit _ c.ranges.n.fits)
-
-pub loop-x-smaller : goal.loop-x-smaller
-loop-x-smaller c = omega arith
-
-pub loop-x-preserved : goal.loop-x-preserved
-loop-x-preserved c = omega (arith, count_next _ c.loop-x-test.true)
-
-pub returns : goal.returns
-returns c = omega (arith, count-one _ c.loop-x-test.false)
+pub returns-in-None : goal.returns-in-None
+returns-in-None c = rw (rw c.in-None.is at c.checked_ilog10.ensures.none, digits-one 0 (omega arith))

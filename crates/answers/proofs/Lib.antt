@@ -1,0 +1,2 @@
+-- Laws of what an order comes to.
+pub mod Verdict

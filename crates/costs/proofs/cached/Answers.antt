@@ -1,4 +1,0 @@
-use Rattle.costs.proofs.cached.Goals as goal
-
-pub returns-in-Read : goal.returns-in-Read
-returns-in-Read c = rw c.in-Read.is c.missed.ensures

@@ -1,0 +1,5 @@
+use Rattle.text.specs.Laws.Put.{puts_then}
+use Rattle.text.proofs.putting.Sheet.state.Goals as goal
+
+pub returns : goal.returns
+returns c = puts_then (puts_then c.cell.ensures c.point.ensures) c.cell-2.ensures

@@ -1,5 +1,0 @@
-use Rattle.text.specs.Laws.Put.{and_then}
-use Rattle.text.proofs.putting.put_word.Goals as goal
-
-pub returns : goal.returns
-returns c = and_then (and_then c.put_cell-a.ensures c.put_cell-b.ensures) c.put_cell.ensures
