@@ -10,8 +10,8 @@ use lock::acts;
 use model::{Answer, Cell, Kind, View};
 use points::places;
 
-// Stays an image and its D as two parameters: no plainer as a struct, since yarvelow_event_into asks what refuses an order in a slice that it only reads, and
-// carries the order out in another.
+// Stays an image and its D as two parameters: no plainer as a struct, since event_into asks what refuses an order in a slice that it only reads, and carries
+// the order out in another. Stay beside those of lock, on a table: no call holds one, which 8 KiB of stack have little room for.
 
 // A step of port k that nothing refuses.
 fn step_in(image: &mut [u8], d: u8, k: u8) -> Costs

@@ -40,6 +40,7 @@ impl Held<'_> {
     }
 
     // The rules for port k. Made of the ports that it has seen is looked at only where it has seen any.
+    // Stays beside good::port_good: no plainer as one, since that is given made of both ports, and here it is read where a rule asks for it.
     fn port_sound(&self, k: u8) -> bool
         requires { k < self.now.shared.d }
         ensures { result ≡ place_good self.now k }
@@ -93,6 +94,7 @@ impl Held<'_> {
     }
 
     // What is bad in the table.
+    // Stays beside rules::faults::bad_in: there is no table here. Stays a Fault: definition Good.bad_in, asked of a bad table alone.
     fn bad_in(&self) -> Fault
         ensures { result ≡ bad_in self.now }
     {

@@ -104,7 +104,7 @@ pub fn copies_values(c: Copies) -> [u64; 3]
 }
 
 // A record from its values, of each what is left in its width.
-// Stays cut by `%`: no plainer, since `as` is proved to lose nothing and the library has no method that cuts.
+// Stays cut by `%`: no plainer, since `as` is proved to lose nothing, and the first of to_le_bytes is a longer way to say it.
 pub fn shared_of(d: u64, v: [u64; 4], c: [u64; 2]) -> Shared
     ensures { result ≡ Layout.shared_of d (unpack Layout.shared_widths (pack Layout.shared_widths v)) c }
 {

@@ -6,6 +6,7 @@ pub mod reading;
 // What has been read of a line that is not ended yet: its letter, and its number so far.
 #[derive(Clone, Copy)]
 pub enum Part {
+    // Stays among the parts: definition Reading.act has it so.
     Nothing,
     Letter(u8),
     Space(u8),

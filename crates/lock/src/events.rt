@@ -24,13 +24,7 @@ pub fn event(mut table: Table, port: u64, event: u64) -> Outcome
     };
     let (costs, answer) = match paid {
         Ok(costs) => (costs, Answer::Done),
-        Err(answer) => (
-            Costs {
-                cached: 0,
-                distributed: 0,
-            },
-            answer,
-        ),
+        Err(answer) => (Costs::FREE, answer),
     };
     Outcome {
         table,

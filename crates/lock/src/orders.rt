@@ -112,6 +112,7 @@ impl Reach {
 }
 
 // What any event leaves: refused, all is as it was.
+// Stays beside `order`: its clause is of records without a table.
 pub fn act(reach: Reach, event: u64) -> Acted
     ensures { result ≡ Parts.acted_on reach.touch reach.shared reach.port event reach.own reach.touched reach.copies }
 {

@@ -300,9 +300,9 @@ fn looked(v: View, x: u8, back: u8) -> Port
 
 // The i-th point of the promotion with tens x, which goes back to `back`. A step calls it at three places: without the hint it stands apart, and a step costs a
 // tenth more.
+// Stays a match on the point, as in `step`, `entering` and `leaving`: document 01's tables and definition Moves.step go by it.
 #[tactic(auto, unfolding(model::specs::Parts::Moves::step))]
 #[inline(always)]
-// Stays a match on the point, as in `step`, `entering` and `leaving`: document 01's tables and definition Moves.step go by it.
 fn promoted(v: View, i: u8, x: u8, back: u8) -> Move
     requires { Sight v × (x < 50) }
     ensures { (y : Tens) → x ≡ tens y → back ≡ Points.back y → result ≡ Moves.step (get_or (Points.promotion y) i Points.none) v }
@@ -348,7 +348,7 @@ fn promoted(v: View, i: u8, x: u8, back: u8) -> Move
     }
 }
 
-// Stays a fact in five contracts: acts::tried makes a view without it, so that a View can't hold it.
+// Stays a fact in each contract: the clause of acts::tried holds of any view, so that a View can't hold it.
 pub fn step(v: View) -> Move
     requires { Sight v }
     ensures { result ≡ Moves.step (Points.point_of v.own.point) v }

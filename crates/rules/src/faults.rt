@@ -208,6 +208,7 @@ fn copy_rules(d: u64, k: u8, made: u16, c: Copies) -> [Rule; 4]
 
 // What is bad after port k, with made of its seen owner and of its candidate; no port is looked at where D is out of range. Apart from the check of good
 // ports, which is faster without it.
+// Stay rules beside the tests of `good`: no plainer as one, since those are asked of each port, in groups and without a field.
 #[tactic(auto, unfolding(model::specs::Table::size_good, model::specs::Table::room))]
 #[inline(never)]
 pub fn port_fault(

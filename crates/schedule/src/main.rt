@@ -53,6 +53,7 @@ fn feed_all(rt: &impl Print, run: Run, piece: &[u8]) -> Result<Run, Failed>
 {
     let mut now = run;
     let mut rest = piece;
+    // Stays a while: no plainer as a for, as how much a turn takes is known after it.
     while !rest.is_empty() {
         let fed = feed(rt, now, rest)?;
         now = fed.run;

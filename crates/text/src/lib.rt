@@ -36,7 +36,7 @@ fn has_room(room: usize, at: usize) -> bool
 }
 
 // Puts the line for an event into `out` from a place on, where there is room for the longest line, and else nothing; gives the place after it.
-// Stays a buffer and a place, here and in put_bad: public functions, whose signatures may not change.
+// Stays a buffer and a place, and a function beside put_bad: the clauses of both name them.
 pub fn put_row(out: &mut [u8], at: usize, row: Row) -> usize
     ensures value { result ≡ at + length (Parts.fitting (length out.old) at (Parts.row_text row)) }
     ensures out_after { out.new ≡ sets out.old at (Parts.fitting (length out.old) at (Parts.row_text row)) }

@@ -6,6 +6,7 @@ use model::{Answer, Table};
 use std::alloc::{AllocError, Global};
 
 // The number that a line wants, and whether all is as it wants.
+// Stay two: each is counted by itself.
 #[derive(Clone, Copy)]
 pub struct Line {
     pub number: u64,
@@ -53,6 +54,7 @@ impl Wanted {
 
 // The image of a table is these bytes; of a table that cannot be written it is none.
 fn written(table: Table, want: &[u8]) -> bool {
+    // Stays a room of fixed size: writer::write puts the image into what it is lent.
     let mut room = [0u8; SPACE];
     let length = writer::write(table, &mut room).unwrap_or(0);
     room.get(..length) == Some(want)

@@ -76,6 +76,7 @@ impl<'a> Cursor<'a> {
     }
 
     // Reads a number, which is 0 where no digit stands.
+    // Stays 0 there: no plainer, as a line without its number is one that is not right.
     pub fn number(&mut self) -> u64 {
         self.skip(1);
         let digits = self
