@@ -93,8 +93,9 @@ impl Held<'_> {
         )
     }
 
-    // What is bad in the table.
+    // What is bad in the table. Inlined, so that it and the check share their stack.
     // Stays beside rules::faults::bad_in: there is no table here. Stays a Fault: definition Good.bad_in, asked of a bad table alone.
+    #[inline(always)]
     fn bad_in(&self) -> Fault
         ensures { result ≡ bad_in self.now }
     {
@@ -122,5 +123,5 @@ pub fn check(bytes: &[u8]) -> Result<u8, Answer>
     if !image.sound() {
         return Err(Answer::BadTable(image.bad_in()));
     }
-    Ok(d)
+    Ok(records::d_in(bytes))
 }

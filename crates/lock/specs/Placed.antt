@@ -17,6 +17,7 @@ use Rattle.rules.specs.Check.{slot-own}
 use Rattle.answers.specs.declared.Costs.{Costs}
 use Rattle.answers.specs.Verdict.{paid}
 use Rattle.lock.specs.declared.orders.Acted.{Acted}
+use Rattle.lock.specs.declared.orders.Reach.{Reach}
 use Rattle.lock.specs.Ready.{passed, any-record, port-fits, home_fits}
 use Rattle.lock.specs.Parts.{kept, acted_on}
 use Rattle.lock.specs.Sight.{joined, refused}
@@ -26,9 +27,15 @@ use Rattle.lock.specs.Acted.{act-refused, rejoined, acts}
 abbrev pub acted_at : Table → ℕ → ℕ → ℕ → ℕ → Acted
 acted_at t port e k j = acted_on (touch_of t k) t.shared port e (port_at t k) (port_at t j) (copies_at t j)
 
--- put together, it is what the definitions say
+-- on what the order sees of the table
+pub reach-acted : (t : Table) (port e k j : ℕ) (r : Reach) → r.touch ≡ touch_of t k → r.shared ≡ t.shared → r.port ≡ port → r.own ≡ port_at t k
+    → r.touched ≡ port_at t j → r.copies ≡ copies_at t j → acted_on r.touch r.shared r.port e r.own r.touched r.copies ≡ acted_at t port e k j
+reach-acted t port e k j r a b c d f g = rw (a, b, c, d, f, g)
+
+-- put together, it is what the definitions say; refused, the table is as it was
 pub record Placed (t : Table) (port e k j : ℕ) : Type 0 where
   pub value : (acted_at t port e k j).paid ≡ paid (paid_event t port e)
+  pub unmoved : (a : Answer) → (acted_at t port e k j).paid ≡ Err a → t ≡ (paid_event t port e).table
   pub table : joined t k j (acted_at t port e k j) ≡ (paid_event t port e).table
 
 -- its own records put back at any places change nothing
@@ -60,13 +67,13 @@ module _ (t : Table) (port e k j : ℕ) (a : k ≡ slot_of port) (b : j ≡ slot
       let h : j ≡ slot_of (home_of t port) = b ∙ ap (λ (i : ℕ). slot_of (home (touch_of t i).cell port (port_at t i).work)) q in
       let r : j ≡ home_of t port = slot-own (home_of t port) j h (home_fits t port e p) in
       let o = acts t port e in
-      record { value = rw (q, r) o.value; table = rw (q, r) o.table }
+      record { value = rw (q, r) o.value; unmoved = rw (q, r) o.refused; table = rw (q, r) o.table }
 
   refuses : (number ≡ 0 → ⊥) → Placed t port e k j
   refuses n =
       let f = act-refused (touch_of t k) t.shared port e (port_at t k) (port_at t j) (copies_at t j) n in
       let o = turned-away t port e k a n in
-      record { value = rw (← f) o.0; table = rw (← f) (unchanged t k j (Err (paid_answer t.shared port e (port_at t k))) ∙ o.1) }
+      record { value = rw (← f) o.0; unmoved = λ a z. o.1; table = rw (← f) (unchanged t k j (Err (paid_answer t.shared port e (port_at t k))) ∙ o.1) }
 
   pub placed : Placed t port e k j
   placed = go (eqb number 0) refl

@@ -1,10 +1,14 @@
 // One order: on the records that it sees, and on a table.
-ghost use Rattle.std.specs.Prelude.{◌≡◌};
+ghost use Rattle.std.specs.Prelude.{◌≡◌, ◌<◌};
 ghost use Rattle.model.specs.Event.{number_of};
+ghost use Rattle.model.specs.Table.{port_at, copies_at};
+ghost use Rattle.model.specs.Parts.Charges.{home};
+ghost use Rattle.model.specs.Parts.Steps.{touch_of};
+ghost use Rattle.model.specs.Parts.Rules.{slot_of};
 ghost use Rattle.model.specs.Paid.{paid_answer, paid_event};
-ghost use Rattle.answers.specs.Verdict.{paid};
+ghost use Rattle.answers.specs.Verdict.{paid, code_of};
 ghost use Rattle.lock.specs.Parts as Parts;
-ghost use Rattle.lock.specs.Sight.{Sight};
+ghost use Rattle.lock.specs.Sight.{Sight, joined};
 
 use crate::{acts, steps};
 use answers::{Costs, Event};
@@ -62,7 +66,8 @@ impl Reach {
         }
     }
 
-    // What a step leaves.
+    // What a step leaves. Inlined, as all below it, so that an order hands no record on through the stack.
+    #[inline(always)]
     fn stepped(&self) -> Acted
         requires { Sight (Parts.view_on self.now.shared self.now.port self.now.own self.now.touched) }
         ensures { result ≡ Parts.stepped_on self.now.touch self.now.shared self.now.port self.now.own self.now.touched self.now.copies }
@@ -98,6 +103,7 @@ impl Reach {
     }
 
     // What an event leaves that nothing refuses.
+    #[inline(always)]
     fn carried(&self, event: u64) -> Acted
         requires { number_of (paid_answer self.now.shared self.now.port event self.now.own) ≡ 0 }
         ensures { result ≡ Parts.acted_on self.now.touch self.now.shared self.now.port event self.now.own self.now.touched self.now.copies }
@@ -112,7 +118,6 @@ impl Reach {
 }
 
 // What any event leaves: refused, all is as it was.
-// Stays beside `order`: its clause is of records without a table.
 pub fn act(reach: Reach, event: u64) -> Acted
     ensures { result ≡ Parts.acted_on reach.touch reach.shared reach.port event reach.own reach.touched reach.copies }
 {
@@ -122,15 +127,20 @@ pub fn act(reach: Reach, event: u64) -> Acted
     }
 }
 
-// An order on a table whose check has been paid: its records are taken out of the table, and what it leaves is put back in their places.
-#[tactic(auto, unfolding(model::specs::Table::room))]
-pub fn order(table: &mut Table, port: u64, event: u64) -> Result<Costs, Answer>
-    ensures value { result ≡ paid (paid_event table.old port event) }
-    ensures table_after { table.new ≡ (paid_event table.old port event).table }
+// The place of the port whose word the step of the port at place k would touch, and what an order of that port sees of a table.
+#[tactic(auto, unfolding(model::specs::Parts::Steps::touch_of, model::specs::Table::room))]
+fn reached(table: &Table, k: usize, port: u64) -> (usize, Reach)
+    requires { k < 64 }
+    ensures place { result.0 ≡ slot_of (home (touch_of table.now k).cell port (port_at table.now k).work) }
+    ensures bound { result.0 < 64 }
+    ensures touch { result.1.touch ≡ touch_of table.now k }
+    ensures shared { result.1.shared ≡ table.now.shared }
+    ensures port { result.1.port ≡ port }
+    ensures own { result.1.own ≡ port_at table.now k }
+    ensures touched { result.1.touched ≡ port_at table.now result.0 }
+    ensures copies { result.1.copies ≡ copies_at table.now result.0 }
 {
-    let k = good::slot(port);
     let own = table.ports[k];
-    answers::first(table.shared, port, event, own)?;
     let touch = places::touch_at(own.point);
     let j = good::slot(costs::home(touch.cell, port, own.work));
     let reach = Reach {
@@ -141,10 +151,49 @@ pub fn order(table: &mut Table, port: u64, event: u64) -> Result<Costs, Answer>
         touched: table.ports[j],
         copies: table.copies[j],
     };
-    let left = reach.carried(event);
+    (j, reach)
+}
+
+// Puts what an order leaves back at the places of its port and of the port that it touched.
+fn put_back(table: &mut Table, k: usize, j: usize, left: Acted)
+    requires { (k < 64) × (j < 64) }
+    ensures { table.new ≡ joined table.old k j left }
+{
     table.ports[k] = left.own;
     table.copies[j] = left.copies;
     table.shared = left.shared;
     table.ports[j] = acts::marked(left.sets, table.ports[j]);
-    left.paid
+}
+
+// An order on a table whose check has been paid: its records are taken out of the table, and what it leaves is put back in their places. Apart from those that
+// check the table, which need less stack without it.
+#[tactic(auto, unfolding(model::specs::Table::room))]
+#[inline(never)]
+pub fn order(table: &mut Table, port: u64, event: u64) -> Result<Costs, Answer>
+    ensures value { result ≡ paid (paid_event table.old port event) }
+    ensures table_after { table.new ≡ (paid_event table.old port event).table }
+{
+    let k = good::slot(port);
+    let (j, reach) = reached(table, k, port);
+    let left = act(reach, event);
+    let costs = left.paid?;
+    put_back(table, k, j, left);
+    Ok(costs)
+}
+
+// The same of an order of a run, in one number. Many of these may be refused, and then nothing is taken out of the table.
+#[tactic(auto, unfolding(model::specs::Table::room))]
+#[inline(always)]
+pub(crate) fn turn(table: &mut Table, port: u64, event: u64) -> u64
+    ensures value { result ≡ code_of (paid (paid_event table.old port event)) }
+    ensures table_after { table.new ≡ (paid_event table.old port event).table }
+{
+    let k = good::slot(port);
+    if let Err(answer) = answers::first(table.shared, port, event, table.ports[k]) {
+        return answers::number(answer);
+    }
+    let (j, reach) = reached(table, k, port);
+    let left = reach.carried(event);
+    put_back(table, k, j, left);
+    answers::code(left.paid)
 }

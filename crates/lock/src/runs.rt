@@ -21,8 +21,7 @@ pub fn run(mut table: Table, orders: &[u64], answers: &mut [u64]) -> Made
     // Stays a loop over numbers: tried with `chunks_exact(2).zip(answers)`, and the proof of `run` doesn't close.
     let n = (orders.len() / 2).min(answers.len());
     for i in 0..n {
-        let paid = orders::order(&mut table, orders[2 * i], orders[2 * i + 1]);
-        answers[i] = answers::code(paid);
+        answers[i] = orders::turn(&mut table, orders[2 * i], orders[2 * i + 1]);
     }
     Made {
         table,

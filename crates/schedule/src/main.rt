@@ -35,16 +35,16 @@ fn write(rt: &impl Print, text: &[u8]) -> Result<(), Failed> {
     rt.write_all(text).map_err(|_| Failed::Write)
 }
 
-// Feeds the run once, and writes what it printed. What is left of the piece is still to be taken; a run that takes nothing is at its end.
-fn feed(rt: &impl Print, run: Run, piece: &[u8]) -> Result<Fed, Failed>
-    ensures taken_in_bounds { IfOk result (λ fed. fed.taken ≤ length piece.now) }
-    ensures rest_to_take { IfOk result (λ fed. took run piece.now ≡ took fed.run (drop fed.taken piece.now)) }
-    ensures at_its_end { IfOk result (λ fed. 0 < length piece.now → fed.taken ≡ 0 → took run piece.now ≡ fed.run) }
+// Feeds the run once, and writes what it printed. What is left of the piece is still to be taken; a run that takes nothing is at its end. That holds also
+// where what it printed could not be written.
+fn feed(rt: &impl Print, run: Run, piece: &[u8]) -> (Fed, Result<(), Failed>)
+    ensures taken_in_bounds { result.0.taken ≤ length piece.now }
+    ensures rest_to_take { took run piece.now ≡ took result.0.run (drop result.0.taken piece.now) }
+    ensures at_its_end { 0 < length piece.now → result.0.taken ≡ 0 → took run piece.now ≡ result.0.run }
 {
     let mut out = [0u8; PIECE];
     let fed = runs::feed(run, piece, &mut out);
-    write(rt, &out[..fed.written])?;
-    Ok(fed)
+    (fed, write(rt, &out[..fed.written]))
 }
 
 // Feeds the run until the piece is used up or the run is at its end: it has then taken every byte of the piece that it takes.
@@ -55,7 +55,8 @@ fn feed_all(rt: &impl Print, run: Run, piece: &[u8]) -> Result<Run, Failed>
     let mut rest = piece;
     // Stays a while: no plainer as a for, as how much a turn takes is known after it.
     while !rest.is_empty() {
-        let fed = feed(rt, now, rest)?;
+        let (fed, written) = feed(rt, now, rest);
+        written?;
         now = fed.run;
         if fed.taken == 0 {
             break;

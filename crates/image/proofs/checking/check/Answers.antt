@@ -1,6 +1,7 @@
 use mathlib.Core.Path.{sym, ◌∙◌}
-use Rattle.image.proofs.Laws.Held.{shared-held}
+use Rattle.image.proofs.Laws.Held.{shared-held, is-image}
 use Rattle.image.proofs.Laws.Checking.{some-ports, no-ports, checks-none, checks-bad, checks-good}
+use Rattle.image.proofs.Laws.Reading.{d-byte}
 use Rattle.image.proofs.checking.check.Goals as goal
 
 pub returns-in_default : goal.returns-in_default
@@ -19,4 +20,5 @@ returns-then-not-sound c =
 pub returns : goal.returns
 returns c =
     let p = some-ports _ _ (sym c.ports_in.ensures ∙ c.in-Some.is) in
-    sym (checks-good _ _ p.0 p.1 (sym c.sound.ensures ∙ c.if-not-sound.false))
+    let b = d-byte c.args.bytes.now ∙ sym (is-image _ _ p.0 p.1).1 in
+    rw (c.d_in.ensures, b) (sym (checks-good _ _ p.0 p.1 (sym c.sound.ensures ∙ c.if-not-sound.false)))

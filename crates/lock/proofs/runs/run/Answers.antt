@@ -1,8 +1,7 @@
 -- A bad table is refused; on a good one each turn is one order.
-use mathlib.Core.Path.{refl, sym, ap, ◌∙◌}
+use mathlib.Core.Path.{refl, sym, ◌∙◌}
 use mathlib.Core.Bool.{true}
 use Rattle.model.specs.Table.{room, Sized}
-use Rattle.answers.specs.Verdict.{code_of}
 use Rattle.rules.specs.Finding.{none-good}
 use Rattle.lock.specs.Turns.{begins, turn-paid, run_ends, run-refused}
 use Rattle.lock.proofs.runs.run.Goals as goal
@@ -23,8 +22,7 @@ loop-i-init c = begins _ _ _ _ (sized-table c) (λ m. none-good c.args.table (sy
 
 pub loop-i-preserved : goal.loop-i-preserved
 loop-i-preserved c =
-    turn-paid _ _ _ _ c.loop-i.i c.loop-i.table _ c.loop-i.answers _ c.loop-i-test.true c.loop-i.invariant c.order-paid.ensures.table_after
-    (c.code.ensures ∙ ap code_of c.order-paid.ensures.value)
+    turn-paid _ _ _ _ c.loop-i.i c.loop-i.table _ c.loop-i.answers _ c.loop-i-test.true c.loop-i.invariant c.turn.ensures.table_after c.turn.ensures.value
 
 pub returns : goal.returns
 returns c =
