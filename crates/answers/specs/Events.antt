@@ -1,26 +1,13 @@
--- The events of the code, and what an event answers at a port that there is, for some events together.
-use Rattle.std.specs.Prelude.{◌≡◌, Bool, cond, ◌||◌, ℕ, ◌≤◌, ◌<◌, Result, Ok, Err}
+-- What an event answers at a port that there is, for some events together.
+use Rattle.std.specs.Prelude.{◌≡◌, Bool, cond, ◌||◌, ℕ, ◌≤◌, ◌<◌}
 use Rattle.std.proofs.Math.Path.{refl}
 use Rattle.std.proofs.Math.Bool.{true, false}
 use Rattle.std.proofs.Common.{arith}
 use borrow.Author.Tests.{eqb-false, eq-eqb, ne_eqb, le-leb, lt-leb}
 use Rattle.std.proofs.Math.Dec.{eqb}
 use Rattle.model.specs.declared.Port.{Port}
-use Rattle.model.specs.declared.Answer.{Answer}
 use Rattle.model.specs.declared.Answer.TheVariants.{Done, NoSuchEvent, Idle}
-use Rattle.model.specs.Event.{enter, stepping, crash, call_off, leave, first_of, refusals}
-use Rattle.answers.specs.declared.Event.{Event}
-use Rattle.answers.specs.declared.Event.TheVariants.{Enter, Step, Crash, CallOff, Leave}
-
--- the event that a number stands for; another number is no event
-abbrev pub event_of : ℕ → Result Event Answer
-event_of e =
-    cond (eqb e enter) (Ok Enter)
-    (cond (eqb e stepping) (Ok Step)
-    (cond (eqb e crash) (Ok Crash)
-    (cond (eqb e call_off) (Ok CallOff)
-    (cond (eqb e leave) (Ok Leave)
-    (Err NoSuchEvent)))))
+use Rattle.model.specs.Event.{first_of, refusals}
 
 module _ (e : ℕ) (p : Port) where
   -- a crash or a call-off

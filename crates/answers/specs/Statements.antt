@@ -7,7 +7,9 @@ use Rattle.model.specs.declared.Answer.{Answer}
 use Rattle.model.specs.Event.{number_of, fresh, first_of, refusals, ordered}
 use Rattle.model.specs.Paid.{paid_answer}
 use Rattle.answers.specs.Verdict.{passed, code_of}
+use Rattle.answers.specs.Numbered.{event_of}
 use Rattle.answers.specs.declared.Costs.{Costs}
+use Rattle.answers.specs.declared.Event.{Event}
 use Rattle.model.proofs.Statements.{one}
 
 pub number-one : (a : Answer) (r s : ℕ) → r ≡ number_of a → s ≡ number_of a → r ≡ s
@@ -33,3 +35,6 @@ first-passed-one s k e p r q = one
 
 pub code-one : (c : Result Costs Answer) (r s : ℕ) → r ≡ code_of c → s ≡ code_of c → r ≡ s
 code-one c r s = one
+
+pub event-of-one : (n : ℕ) (r s : Result Event Answer) → r ≡ event_of n → s ≡ event_of n → r ≡ s
+event-of-one n r s = one

@@ -7,7 +7,7 @@ ghost use Rattle.model.specs.Event.{number_of, first_of, refusals};
 ghost use Rattle.model.specs.Event as Events;
 ghost use Rattle.model.specs.Paid.{paid_answer};
 ghost use Rattle.model.specs.Paid as Paid;
-ghost use Rattle.answers.specs.Events.{event_of};
+ghost use Rattle.answers.specs.Numbered.{event_of};
 ghost use Rattle.answers.specs.Verdict.{passed, code_of};
 
 use model::{Answer, Copies, Fault, Made, Port, ROOM, Shared, Table, Work};

@@ -1,5 +1,5 @@
 -- Two results that meet the promise of a function of this crate are equal, and so are two contents of the buffer: each promise gives one value at every argument.
-use Rattle.std.specs.Prelude.{◌≡◌, List, [], ◌∷◌, ℕ, get_or}
+use Rattle.std.specs.Prelude.{◌≡◌, List, [], ◌∷◌, ℕ, Option, get_or}
 use Rattle.model.specs.declared.Word.{Word}
 use Rattle.model.specs.declared.Port.{Port}
 use Rattle.model.specs.declared.Copies.{Copies}
@@ -7,10 +7,13 @@ use Rattle.model.specs.declared.Shared.{Shared}
 use Rattle.model.proofs.Statements.{one}
 use Rattle.model.specs.Bytes.{sum}
 use Rattle.model.specs.Layout.{shared_widths, port_widths, set_width, copied_widths, copies_widths, head_widths, shared_of, port_of, copies_of, port_place, copies_place}
-use Rattle.records.specs.Records.{there, put_at, ports_in}
+use Rattle.records.specs.Records.{there, put_at, ports_in, some_ports}
 
 pub ports-in-one : (bs : List ℕ) (r s : ℕ) → r ≡ ports_in bs → s ≡ ports_in bs → r ≡ s
 ports-in-one bs r s = one
+
+pub some-ports-one : (bs : List ℕ) (r s : Option ℕ) → r ≡ some_ports (ports_in bs) → s ≡ some_ports (ports_in bs) → r ≡ s
+some-ports-one bs r s = one
 
 pub d-in-one : (bs : List ℕ) (r s : ℕ) → r ≡ get_or bs 1 0 → s ≡ get_or bs 1 0 → r ≡ s
 d-in-one bs r s = one

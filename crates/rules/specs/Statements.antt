@@ -1,13 +1,17 @@
 -- Two results that meet the promise of a function of this crate are equal: each promise gives one value at every argument.
-use Rattle.std.specs.Prelude.{◌≡◌, Bool, ℕ}
+use Rattle.std.specs.Prelude.{◌≡◌, Bool, ℕ, Option}
 use Rattle.model.specs.declared.Work.{Work}
 use Rattle.model.specs.declared.Port.{Port}
 use Rattle.model.specs.declared.Copies.{Copies}
 use Rattle.model.specs.declared.Shared.{Shared}
+use Rattle.model.specs.declared.Table.{Table}
+use Rattle.model.specs.declared.Fault.{Fault}
+use Rattle.model.specs.Good.{bad_in}
 use Rattle.model.specs.Parts.Good.{shared_good}
 use Rattle.model.specs.Table.{size_good}
 use Rattle.model.specs.Parts.Rules.{own_tests, unseen_tests, seen_tests, port_tests, joined_port, ports_of, slot_of}
 use Rattle.model.proofs.Statements.{one}
+use Rattle.rules.specs.Found.{found}
 
 pub size-good-one : (d : ℕ) (r s : Bool) → r ≡ size_good d → s ≡ size_good d → r ≡ s
 size-good-one d r s = one
@@ -35,3 +39,6 @@ ports-one d r s = one
 
 pub slot-one : (k r s : ℕ) → r ≡ slot_of k → s ≡ slot_of k → r ≡ s
 slot-one k r s = one
+
+pub bad-in-one : (t : Table) (r s : Option Fault) → r ≡ found (bad_in t) → s ≡ found (bad_in t) → r ≡ s
+bad-in-one t r s = one
