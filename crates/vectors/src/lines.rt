@@ -3,7 +3,6 @@ use crate::text::{Cursor, SPACE};
 use image::{reader, writer};
 use lock::events;
 use model::{Answer, Table};
-use std::alloc::{AllocError, Global};
 
 // The number that a line wants, and whether all is as it wants.
 // Stay two: each is counted by itself.
@@ -61,16 +60,17 @@ fn written(table: Table, want: &[u8]) -> bool {
 }
 
 // A line of an image: the image, the answer, and the bytes written back.
-pub fn image(alloc: Global, text: &mut Cursor<'_>) -> Result<Line, AllocError> {
-    let image = text.bytes(alloc)?;
+pub fn image(text: &mut Cursor<'_>) -> Line {
+    let (mut room, mut other) = ([0u8; SPACE], [0u8; SPACE]);
+    let image = text.bytes(&mut room);
     let w = Wanted::read(text);
-    let want = text.last(alloc, &image)?;
+    let want = text.last(image, &mut other);
     text.skip(1);
-    let made = reader::read(&image);
-    Ok(Line {
+    let made = reader::read(image);
+    Line {
         number: w.number,
-        right: (Wanted::from(made.answer) == w) & written(made.table, &want),
-    })
+        right: (Wanted::from(made.answer) == w) & written(made.table, want),
+    }
 }
 
 // An order and the costs that are wanted.
@@ -96,8 +96,9 @@ fn event_right(bytes: &[u8], o: Order, w: Wanted, want: &[u8]) -> bool {
 }
 
 // A line of an event: an image, port, event, the answer, both costs, and the image of the table after it.
-pub fn event(alloc: Global, text: &mut Cursor<'_>) -> Result<Line, AllocError> {
-    let image = text.bytes(alloc)?;
+pub fn event(text: &mut Cursor<'_>) -> Line {
+    let (mut room, mut other) = ([0u8; SPACE], [0u8; SPACE]);
+    let image = text.bytes(&mut room);
     let port = text.number();
     let event = text.number();
     let w = Wanted::read(text);
@@ -107,10 +108,10 @@ pub fn event(alloc: Global, text: &mut Cursor<'_>) -> Result<Line, AllocError> {
         cached: text.number(),
         distributed: text.number(),
     };
-    let want = text.last(alloc, &image)?;
+    let want = text.last(image, &mut other);
     text.skip(1);
-    Ok(Line {
+    Line {
         number: w.number,
-        right: event_right(&image, order, w, &want),
-    })
+        right: event_right(image, order, w, want),
+    }
 }

@@ -4,12 +4,12 @@
 mod lines;
 mod text;
 
+ghost use Rattle.std.specs.Prelude.{◌≡◌, ◌≤◌, length, IfOk};
+
 use image::reader;
 use lines::Line;
-use std::alloc::{AllocError, Global};
-use std::io::Read;
 use std::rt::Files;
-use std::{fmt, fs, io};
+use std::{fs, io};
 use text::Cursor;
 
 // An image of two ports.
@@ -19,10 +19,8 @@ const IMAGE: [u8; 74] = [
     0, 109, 4, 0, 0, 0, 0, 0, 3, 0, 3, 0, 2, 0, 2, 0, 3, 0, 3, 0, 1, 0,
 ];
 
-// The most lines that are read of a file, and the most bytes.
+// The most lines that are read of a file.
 const LINES: u64 = 1000;
-
-const BYTES: u64 = 600000;
 
 // How many lines were read, how many of them are right, and how many were answered 0, 1 and 11.
 #[derive(Clone, Copy, Default)]
@@ -44,23 +42,10 @@ impl Tally {
     }
 }
 
-// The answers alone.
-impl fmt::Display for Tally {
-    fn fmt<W: fmt::Write>(&self, f: &mut fmt::Formatter<W>) -> fmt::Result {
-        let Tally {
-            done,
-            badtable,
-            badimage,
-            ..
-        } = *self;
-        write!(f, "done {done} bad table {badtable} bad image {badimage}")
-    }
-}
-
 // All lines of a text, each read and carried out by `line`.
-fn all_lines<F>(alloc: Global, text: &[u8], line: F) -> Result<Tally, AllocError>
+fn all_lines<F>(text: &[u8], line: F) -> Tally
 where
-    F: Fn(Global, &mut Cursor<'_>) -> Result<Line, AllocError>,
+    F: Fn(&mut Cursor<'_>) -> Line,
     requires { F.IsAlwaysCallable line }
 {
     let mut tally = Tally::default();
@@ -69,10 +54,10 @@ where
         if rest.is_empty() {
             break;
         }
-        let l = line(alloc, &mut rest)?;
+        let l = line(&mut rest);
         tally.count(l.number, l.right);
     }
-    Ok(tally)
+    tally
 }
 
 // Every damage of one byte of the image.
@@ -90,32 +75,70 @@ fn damages() -> Tally {
     tally
 }
 
+// Stays a write for each number: where one fails, what stands before it is written.
+fn print(rt: &impl Print, label: &str, n: u64) -> io::Result<()> {
+    print!(rt; "{label}{n}")
+}
+
+fn print_answers(rt: &impl Print, tally: Tally) -> io::Result<()> {
+    print(rt, " done ", tally.done)?;
+    print(rt, " bad table ", tally.badtable)?;
+    print(rt, " bad image ", tally.badimage)?;
+    println!(rt)
+}
+
+// Reads until the room is full or the file ends, and gives how many bytes were read.
+fn read_full<I: io::Read>(file: &mut I, room: &mut [u8]) -> io::Result<usize>
+    ensures { IfOk result (λ n. n ≤ length room.new) }
+{
+    let mut n: usize = 0;
+    for _ in 0..u64::MAX {
+        let got = file.read(&mut room[n..])?;
+        if got == 0 {
+            break;
+        }
+        n += got;
+    }
+    Ok(n)
+}
+
+// Room for the longest file. Only its length is known, since no proof could write out so many zeros.
+fn file_room() -> [u8; 600000]
+    ensures { 600000 ≡ length result }
+{
+    [0; 600000]
+}
+
 // Runs the lines of a file. One that cannot be opened is left out, and said to be.
-fn run_file<R: Files + Print + Eprint + AllocGlobal, F>(
+// Stays a room of fixed size: a Vec can be refused, and takes more memory.
+fn run_file<R: Files + Print + Eprint, F>(
     rt: &R,
     label: &str,
     path: &str,
     line: F,
 ) -> io::Result<()>
 where
-    F: Fn(Global, &mut Cursor<'_>) -> Result<Line, AllocError>,
+    F: Fn(&mut Cursor<'_>) -> Line,
     requires { F.IsAlwaysCallable line }
 {
-    let file = match fs::open(rt, path) {
+    let mut file = match fs::open(rt, path) {
         Ok(file) => file,
         Err(e) => {
             return eprintln!(rt; "{path}: {e}");
         }
     };
-    let mut text = Vec::new(rt.alloc());
-    file.take(BYTES).read_to_end(&mut text)?;
-    let tally = all_lines(rt.alloc(), &text, line)?;
-    println!(rt; "{label} {} right {} {tally}", tally.lines, tally.right)
+    let mut room = file_room();
+    let n = read_full(&mut file, &mut room)?;
+    let tally = all_lines(&room[..n], line);
+    print(rt, label, tally.lines)?;
+    print(rt, " right ", tally.right)?;
+    print_answers(rt, tally)
 }
 
 fn main(rt: HostRuntime) -> io::Result<()> {
-    run_file(&rt, "images", "images.txt", lines::image)?;
-    run_file(&rt, "events", "events.txt", lines::event)?;
+    run_file(&rt, "images ", "images.txt", lines::image)?;
+    run_file(&rt, "events ", "events.txt", lines::event)?;
     let tally = damages();
-    println!(rt; "damages {} {tally}", tally.lines)
+    print(&rt, "damages ", tally.lines)?;
+    print_answers(&rt, tally)
 }

@@ -1,7 +1,6 @@
 // The text of the vectors: bytes in hexadecimal and numbers in decimal, each with a byte before it but the first.
 ghost use Rattle.std.specs.Prelude.{◌<◌, IfSome};
 
-use std::alloc::{AllocError, Global};
 use std::str;
 
 // The most bytes that are read of one field.
@@ -53,26 +52,28 @@ impl<'a> Cursor<'a> {
         self.take(n);
     }
 
-    // Reads bytes; another sign, as `-`, stands for none.
-    pub fn bytes(&mut self, alloc: Global) -> Result<Vec<u8>, AllocError> {
-        let bytes: Vec<u8> = self
-            .rest
-            .chunks_exact(2)
-            .map_while(byte)
-            .take(SPACE)
-            .collect(alloc)?;
-        self.skip(bytes.len().wrapping_mul(2).max(1));
-        Ok(bytes)
+    // Reads bytes into room for them; another sign, as `-`, stands for none.
+    pub fn bytes<'r>(&mut self, room: &'r mut [u8; SPACE]) -> &'r [u8] {
+        let mut n: usize = 0;
+        for (digits, slot) in self.rest.chunks_exact(2).zip(room.iter_mut()) {
+            let Some(b) = byte(digits) else {
+                break;
+            };
+            *slot = b;
+            n = n.wrapping_add(1);
+        }
+        self.skip(n.wrapping_mul(2).max(1));
+        &room[..n.min(SPACE)]
     }
 
     // Reads the last field of a line: bytes, or `=`, which stands for the first field again.
-    pub fn last(&mut self, alloc: Global, first: &Vec<u8>) -> Result<Vec<u8>, AllocError> {
+    pub fn last<'r>(&mut self, first: &'r [u8], room: &'r mut [u8; SPACE]) -> &'r [u8] {
         self.skip(1);
         if let Some(rest) = self.rest.strip_prefix(b"=") {
             self.rest = rest;
-            return first.clone();
+            return first;
         }
-        self.bytes(alloc)
+        self.bytes(room)
     }
 
     // Reads a number, which is 0 where no digit stands.
