@@ -3,9 +3,10 @@
 
 mod acts;
 
-ghost use Rattle.std.specs.Prelude.{◌≡◌, length};
+ghost use Rattle.std.specs.Prelude.{◌≡◌, length, Ok};
 ghost use Rattle.model.specs.Run.{orders_for};
 ghost use Rattle.answers.specs.Verdict.{paid};
+ghost use Rattle.image.specs.Image.{checked};
 ghost use Rattle.cabi.specs.Calls as Calls;
 
 use answers::Costs;
@@ -84,6 +85,20 @@ pub extern "C" fn yarvelow_event_into(image: &[u8], next: &mut [u8], port: u64, 
     answers::code(event_into(image, next, port, event))
 }
 
+// The orders of a run, on the image of d ports. Apart from the check, so that the stack that both need is the same.
+#[inline(never)]
+fn run_in(image: &mut [u8], d: u8, orders: &[u64], answers: &mut [u64])
+    requires { Ok d ≡ checked image.old }
+    ensures image_after { image.new ≡ Calls.calls_image image.old (orders_for orders.now answers.old) }
+    ensures answers_after { answers.new ≡ Calls.run_places image.old (orders_for orders.now answers.old) answers.old }
+{
+    let n = (orders.len() / 2).min(answers.len());
+    // Stays an index: after a loop over a zip of iter_mut a proof knows no answer that was written (tried: the proof of answers_after doesn't close).
+    for i in 0..n {
+        answers[i] = answers::code(acts::act_in(image, d, orders[2 * i], orders[2 * i + 1]));
+    }
+}
+
 // As many events on an image as there are pairs of port and event and places for their answers, with one check of its table: answers[i] is what
 // yarvelow_event would answer. Gives the reader's answer; refused, every byte of the image and every answer is as it was.
 #[unsafe(no_mangle)]
@@ -96,10 +111,6 @@ pub extern "C" fn yarvelow_run(image: &mut [u8], orders: &[u64], answers: &mut [
         Ok(d) => d,
         Err(answer) => return answers::code(Err(answer)),
     };
-    let n = (orders.len() / 2).min(answers.len());
-    // Stays an index: after a loop over a zip of iter_mut a proof knows no answer that was written (tried: the proof of answers_after doesn't close).
-    for i in 0..n {
-        answers[i] = answers::code(acts::act_in(image, d, orders[2 * i], orders[2 * i + 1]));
-    }
+    run_in(image, d, orders, answers);
     0
 }

@@ -147,7 +147,8 @@ pub fn fee(u: Touch, k: u64, w: Work, q: Port, m: u64) -> Fee
     }
 }
 
-// The same from all copy sets: what all share, and c, those of port q.
+// The same from all copy sets: what all share, and c, those of port q. Inlined: both come in and go out by value.
+#[inline(always)]
 pub fn charge(u: Touch, k: u64, w: Work, q: Port, s: Shared, c: Copies) -> Charge
     ensures { result ≡ Charges.charge u (k % 64) w q s c }
 {

@@ -25,7 +25,7 @@ pub fn tried(v: View) -> Move
     ensures { result ≡ Moves.tried v }
 {
     if sees(v) {
-        return steps::step(v);
+        return steps::weighed(v);
     }
     steps::changed(v, v.own)
 }

@@ -220,8 +220,10 @@ fn leaving(v: View) -> Move
     }
 }
 
-// x1: the port with its candidate at the next point. Where ACTIVE is 0, at 31 the port itself is candidate, 32; at 21 and 41, x4.
+// x1: the port with its candidate at the next point. Where ACTIVE is 0, at 31 the port itself is candidate, 32; at 21 and 41, x4. Inlined, so that no view
+// and no port is handed on through the stack.
 #[tactic(auto, unfolding(model::specs::Parts::Moves::step, model::specs::Step::unasked))]
+#[inline(always)]
 fn asked(v: View, x: u8) -> Port
     requires { Sight v × (x < 50) }
     ensures { (y : Tens) → x ≡ tens y → Moves.changed v result ≡ Moves.step (Points.x1 y) v }
@@ -348,7 +350,9 @@ fn promoted(v: View, i: u8, x: u8, back: u8) -> Move
     }
 }
 
-// Stays a fact in each contract: the clause of acts::tried holds of any view, so that a View can't hold it.
+// Stays a fact in each contract: the clause of acts::tried holds of any view, so that a View can't hold it. Inlined, so that no view and no
+// move is handed on through the stack.
+#[inline(always)]
 pub fn step(v: View) -> Move
     requires { Sight v }
     ensures { result ≡ Moves.step (Points.point_of v.own.point) v }
@@ -365,4 +369,12 @@ pub fn step(v: View) -> Move
     } else {
         promoted(v, n - 40, 40, 18)
     }
+}
+
+// The same where the compiler weighs whether to inline it: so a call on an image needs less stack.
+pub fn weighed(v: View) -> Move
+    requires { Sight v }
+    ensures { result ≡ Moves.step (Points.point_of v.own.point) v }
+{
+    step(v)
 }

@@ -206,11 +206,9 @@ fn copy_rules(d: u64, k: u8, made: u16, c: Copies) -> [Rule; 4]
     ]
 }
 
-// What is bad after port k, with made of its seen owner and of its candidate; no port is looked at where D is out of range. Apart from the check of good
-// ports, which is faster without it.
+// What is bad after port k, with made of its seen owner and of its candidate; no port is looked at where D is out of range.
 // Stay rules beside the tests of `good`: no plainer as one, since those are asked of each port, in groups and without a field.
 #[tactic(auto, unfolding(model::specs::Table::size_good, model::specs::Table::room))]
-#[inline(never)]
 pub fn port_fault(
     f: Fault,
     s: Shared,
@@ -228,6 +226,22 @@ pub fn port_fault(
     let a = lowest(f, &field_rules(s.active, k, p));
     let b = lowest(a, &work_rules(s.d, k, p, seenmade, candidatemade));
     lowest(b, &copy_rules(s.d, k, p.made, c))
+}
+
+// The same apart from the check of good ports, which is faster without it.
+#[inline(never)]
+fn port_fault_apart(
+    f: Fault,
+    s: Shared,
+    k: u8,
+    p: Port,
+    c: Copies,
+    seenmade: u16,
+    candidatemade: u16,
+) -> Fault
+    ensures { result ≡ cond (size_good s.d) (foldl Good.lower f (Good.port_rules s k p c seenmade candidatemade)) f }
+{
+    port_fault(f, s, k, p, c, seenmade, candidatemade)
 }
 
 // What is bad in a table, if anything is: each port is looked at, and then all that is kept above D.
@@ -252,7 +266,7 @@ pub fn bad_in(table: &Table) -> Option<Fault>
         let x = table.ports[a].made;
         let y = table.ports[b].made;
         if !good::port_good(s, i as u64, p, c, x, y) {
-            bad = port_fault(bad, s, i as u8, p, c, x, y);
+            bad = port_fault_apart(bad, s, i as u8, p, c, x, y);
         }
     }
     if bad.place == NOWHERE {

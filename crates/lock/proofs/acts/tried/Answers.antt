@@ -2,5 +2,5 @@ use mathlib.Core.Path.{sym, ◌∙◌}
 use Rattle.lock.specs.Sight.{seen-sight}
 use Rattle.lock.proofs.acts.tried.Goals as goal
 
-pub step-requires : goal.step-requires
-step-requires c = seen-sight _ (sym c.sees.ensures ∙ c.if-sees.true)
+pub weighed-requires : goal.weighed-requires
+weighed-requires c = seen-sight _ (sym c.sees.ensures ∙ c.if-sees.true)

@@ -34,7 +34,7 @@ loop-i-preserved c =
     let h = c.loop-i-test.true in
     let i = c.loop-i.invariant in
     elim c.if-not-port_good.branch [
-      | then-not-port_good w ↦ w.bad-is ∙ port-fails t _ _ _ _ _ n h a b i _ w.port_fault-bad.ensures
+      | then-not-port_good w ↦ w.bad-is ∙ port-fails t _ _ _ _ _ n h a b i _ w.port_fault_apart-bad.ensures
       | else-not-port_good w ↦ w.bad-is ∙ port-passes t _ _ _ _ _ n h a b i (sym c.port_good.ensures ∙ w.if-not-port_good.false)
     ]
 
