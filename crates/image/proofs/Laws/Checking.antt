@@ -144,7 +144,7 @@ no-ports n e = go (eqb n 0) refl
 
 -- the reader's answer: to bytes that are no image, to a bad table, and to a good one
 module _ (bs : List ℕ) where
-  reads_none : 0 ≡ ports_in bs → (decode bs).answer ≡ BadImage
+  pub reads_none : 0 ≡ ports_in bs → (decode bs).answer ≡ BadImage
   unfolding decode ports_in
   reads_none e = go (is_image bs) refl
     where
@@ -154,11 +154,11 @@ module _ (bs : List ℕ) where
           absurd (omega (arith, z, (image-tests bs q).some))
       go false q = rw q
 
-  reads-bad : (d : ℕ) → d ≡ ports_in bs → 0 < d → good (held d bs) ≡ false → (decode bs).answer ≡ BadTable (bad_in (held d bs))
+  pub reads-bad : (d : ℕ) → d ≡ ports_in bs → 0 < d → good (held d bs) ≡ false → (decode bs).answer ≡ BadTable (bad_in (held d bs))
   unfolding decode
   reads-bad d e p g = let i = is-image bs d e p in rw (i.0, ← i.1, g)
 
-  reads-good : (d : ℕ) → d ≡ ports_in bs → 0 < d → good (held d bs) ≡ true → (decode bs).answer ≡ Done
+  pub reads-good : (d : ℕ) → d ≡ ports_in bs → 0 < d → good (held d bs) ≡ true → (decode bs).answer ≡ Done
   unfolding decode
   reads-good d e p g = let i = is-image bs d e p in rw (i.0, ← i.1, g)
 

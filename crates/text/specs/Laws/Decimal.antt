@@ -51,10 +51,14 @@ pub digits-fit : (n : ℕ) → n < 18446744073709551616 → length (decimal n) �
 unfolding tens
 digits-fit n h = digits-short 19 n (omega arith)
 
+-- how many digits
+pub count-one : (n : ℕ) → n < 10 → length (decimal n) ≡ 1
+count-one n h = rw (digits-one n h)
+
 pub count_next : (n : ℕ) → 10 ≤ n → length (decimal n) ≡ length (decimal (n / 10)) + 1
 count_next n h = rw (digits-next n h) (length-append (decimal (n / 10)) ((nought + n % 10) ∷ []))
 
--- how many digits
+-- and from the power of ten that it reaches
 pub count-between : (k n : ℕ) → 10 ^ k ≤ n → n < 10 * 10 ^ k → length (decimal n) ≡ k + 1
 count-between zero n l h = rw (digits-one n (omega (arith, h, pow-zero 10)))
 count-between (suc k) n l h =

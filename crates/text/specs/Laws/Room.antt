@@ -1,10 +1,22 @@
 -- Where there is room for a line.
-use Rattle.std.specs.Prelude.{◌≡◌, refl, true, false, List, ℕ, ◌+◌, ◌*◌, ◌≤◌, ◌<◌, leb, length}
-use Rattle.std.proofs.Common.{sym, add-zero, arith, leb-true, le-leb}
+use Rattle.std.specs.Prelude.{◌≡◌, refl, Bool, true, false, List, ℕ, ◌+◌, ◌-◌, ◌*◌, ◌≤◌, ◌<◌, leb, length}
+use Rattle.std.proofs.Common.{sym, add-zero, arith, leb-true, leb-false, le-leb}
+use Rattle.std.proofs.lemmas.Bool.{lt-leb}
 use Rattle.std.proofs.lemmas.List.Edits.{sets}
 use Rattle.text.specs.Text.{longest}
 use Rattle.text.specs.Parts.{fitting}
 use Rattle.text.specs.Laws.Put.{Put, limit}
+
+pub too_short : (room at : ℕ) → room < longest → false ≡ leb (at + longest) room
+too_short room at h = sym (lt-leb (at + longest) room (omega (arith, h)))
+
+-- the room from a place on, and the place's distance from the end
+pub room-from : (room at : ℕ) → longest ≤ room → leb at (room - longest) ≡ leb (at + longest) room
+room-from room at h = go (leb (at + longest) room) refl
+  where
+    go : (b : Bool) → leb (at + longest) room ≡ b → leb at (room - longest) ≡ b
+    go true e = le-leb at (room - longest) (omega (arith, h, leb-true (at + longest) room e))
+    go false e = lt-leb at (room - longest) (omega (arith, h, leb-false (at + longest) room e))
 
 pub below : (room at : ℕ) → leb (at + longest) room ≡ true → room * 1 < limit → at + longest < limit
 below room at e h = omega (arith, h, leb-true (at + longest) room e)
