@@ -161,6 +161,7 @@ pub fn copies_of(v: [u64; 3]) -> Copies
 }
 
 // The length of the copy sets in the image of d ports.
+#[tactic(auto, using(crate::specs::Laws::Inside::places))]
 fn copies_long(d: u8) -> u64
     ensures { result ≡ sum (Layout.copied_widths d) + d * sum (Layout.copies_widths d) }
 {
@@ -204,6 +205,7 @@ pub fn port_place(k: u8) -> usize
     HEAD_SIZE + SHARED_SIZE + usize::from(k) * PORT_SIZE
 }
 
+#[tactic(auto, using(crate::specs::Laws::Inside::places))]
 pub fn copies_place(d: u8, k: u8) -> usize
     ensures { result ≡ Layout.copies_place d k }
 {

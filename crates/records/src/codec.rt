@@ -70,6 +70,7 @@ fn put_row<const N: usize>(room: &mut [u8], at: usize, widths: &[usize; N], valu
 }
 
 // The values of the record that the bytes begin with.
+#[tactic(auto, using(layout::specs::Widths::narrow_at))]
 #[inline(always)]
 pub fn get_row<const N: usize>(bytes: &[u8], form: &Form<N>) -> [u64; N]
     requires { sum form.now.widths ≤ length bytes.now }

@@ -15,7 +15,7 @@ use model::{Copies, Port, Shared, Word};
 use rules::good;
 
 // D of the image, where length, version, D and contents are right.
-#[tactic(auto, unfolding(model::specs::Bytes::sum))]
+#[tactic(auto, using(crate::specs::Laws::Head::comparing), unfolding(model::specs::Bytes::sum))]
 pub fn ports_in(bytes: &[u8]) -> Option<u8>
     ensures { result ≡ Records.some_ports (Records.ports_in bytes.now) }
 {
@@ -75,6 +75,7 @@ fn sets_in<const N: usize>(bytes: &[u8], d: u8, at: usize) -> [u64; N]
 }
 
 // The copy sets of port k in the image of d ports.
+#[tactic(auto, using(crate::specs::Laws::There::reading))]
 pub fn copies_in(bytes: &[u8], d: u8, k: u8) -> Copies
     ensures { result ≡ Layout.copies_of (Records.there (Layout.copies_widths d) (Layout.copies_place d k) bytes.now) }
 {

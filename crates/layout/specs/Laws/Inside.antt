@@ -66,3 +66,36 @@ pub three-small : (k w : ℕ) → k < 256 → w ≤ 8 → k * (3 * w) ≤ 6144
 three-small k w h l =
     let m : k * (3 * w) ≤ k * 24 = mul-le-mul_left k (omega (arith, l)) in
     omega (arith, m, h)
+
+-- in each version: the bytes of a copy set, and the places and the length of those of d ports
+module _ (d : ℕ) where
+  pub set-narrow : d ≤ 16 → set_width d ≡ 2
+  unfolding set_width
+  set-narrow h = rw (le-leb d 16 h)
+
+  pub set-wide : 16 < d → set_width d ≡ 8
+  unfolding set_width
+  set-wide h = rw (lt-leb d 16 h)
+
+  pub place-narrow : (k : ℕ) → d ≤ 16 → copies_place d k ≡ 30 + 16 * d + 6 * k
+  unfolding sum head_widths shared_widths port_widths set_width copied_widths copies_widths port_place copies_place
+  place-narrow k h = rw (le-leb d 16 h) (omega arith)
+
+  pub place-wide : (k : ℕ) → 16 < d → copies_place d k ≡ 42 + 16 * d + 24 * k
+  unfolding sum head_widths shared_widths port_widths set_width copied_widths copies_widths port_place copies_place
+  place-wide k h = rw (lt-leb d 16 h) (omega arith)
+
+  pub long-narrow : d ≤ 16 → sum (copied_widths d) + d * sum (copies_widths d) ≡ 4 + 6 * d
+  unfolding sum set_width copied_widths copies_widths
+  long-narrow h = rw (le-leb d 16 h) (omega arith)
+
+  pub long-wide : 16 < d → sum (copied_widths d) + d * sum (copies_widths d) ≡ 16 + 24 * d
+  unfolding sum set_width copied_widths copies_widths
+  long-wide h = rw (lt-leb d 16 h) (omega arith)
+
+  pub port-at : port_place d ≡ 26 + 16 * d
+  unfolding sum head_widths shared_widths port_widths port_place
+  port-at = omega arith
+
+-- what the places and the length of copy sets are proved by, however the code works them out
+pub ruleset places = (set-narrow, set-wide, place-narrow, place-wide, long-narrow, long-wide, port-at)

@@ -1,9 +1,9 @@
-use Rattle.std.proofs.Common.{sym, ap, ◌∙◌, arith, ne_eqb, get_or}
+use Rattle.std.proofs.Common.{sym, ap, ◌∙◌, arith}
 use Rattle.model.specs.Table.{room}
 use Rattle.rules.specs.Check.{size-good-fits}
 use Rattle.model.specs.Layout.{head_widths}
 use Rattle.records.specs.Records.{some_ports}
-use Rattle.records.specs.Laws.Head.{too_short, wrong_size, wrong-length, wrong-head, right, compared}
+use Rattle.records.specs.Laws.Head.{too_short, wrong_size, wrong-length}
 use Rattle.records.proofs.ports_in.Goals as goal
 
 pub returns-then-bytes-lt-HEAD_SIZE : goal.returns-then-bytes-lt-HEAD_SIZE
@@ -21,16 +21,3 @@ overflow_cast-n c = omega (arith, (size-good-fits _ (sym c.size_good.ensures ∙
 pub returns-then-bytes-size : goal.returns-then-bytes-size
 unfolding some_ports head_widths
 returns-then-bytes-size c = ap some_ports (wrong-length _ _ c.get_row-v.ensures (λ e. c.if-bytes-size.true (e ∙ sym c.size.ensures)))
-
-pub returns-then-eq : goal.returns-then-eq
-unfolding some_ports head_widths
-returns-then-eq c =
-    let v = c.get_row-v in
-    let g = sym c.size_good.ensures ∙ c.if-not-size_good.false in
-    let same = sym (compared _ _ v.ensures _ c.head_values-head.ensures) ∙ sym c.eq.ensures ∙ c.if-eq.true in
-    let e = right _ _ v.ensures g (c.if-bytes-size.false ∙ c.size.ensures) same in
-    rw (← e, ne_eqb (get_or v.result 1 0) 0 (λ z. absurd (omega (arith, z, (size-good-fits _ g).0))))
-
-pub returns-else-eq : goal.returns-else-eq
-unfolding some_ports head_widths
-returns-else-eq c = ap some_ports (wrong-head _ _ c.get_row-v.ensures (sym (compared _ _ c.get_row-v.ensures _ c.head_values-head.ensures) ∙ sym c.eq.ensures ∙ c.if-eq.false))

@@ -1,16 +1,17 @@
 -- The head of an image, looked at test by test.
-use Rattle.std.specs.Prelude.{◌≡◌, refl, Bool, true, false, cond, ◌&&◌, List, ℕ, ◌≤◌, ◌<◌, leb, nat_eq, length, get_or}
+use Rattle.std.specs.Prelude.{◌≡◌, refl, Bool, true, false, cond, ◌&&◌, List, [], ◌∷◌, ℕ, ◌≤◌, ◌<◌, leb, nat_eq, length, get_or, take, None, Some}
 use Rattle.std.proofs.Math.Bool.{and-eq-true_iff, and-false}
 use Rattle.std.specs.Cmp.Lexicographic.{pointwise}
-use Rattle.std.proofs.Common.{ap, ◌∙◌, arith}
+use Rattle.std.proofs.Common.{ap, sym, ◌∙◌, arith, take_all}
 use borrow.Author.Tests.{eqb-true, eq-eqb, ne_eqb, leb-true}
 use Rattle.std.proofs.Math.Dec.{eqb}
 use Rattle.model.specs.Table.{room, size_good}
 use Rattle.model.specs.Bytes.{sum, unpack}
 use Rattle.model.specs.Layout.{head_widths, head_values, size, d_in, is_image}
+use Rattle.rules.specs.Check.{size-good-fits}
 use Rattle.layout.specs.Laws.Inside.{start-inside, copied-inside}
 use Rattle.layout.specs.Laws.Records.{length-unpack}
-use Rattle.records.specs.Records.{ports_in}
+use Rattle.records.specs.Records.{ports_in, some_ports}
 use Rattle.records.specs.Laws.Rows.{same, pointwise-same}
 
 -- the tests of an image, one by one
@@ -79,3 +80,47 @@ module _ (bs : List ℕ) where
     pub right : size_good (get_or v 1 0) ≡ true → length bs ≡ size (get_or v 1 0) → same v (head_values (get_or v 1 0)) ≡ true → get_or v 1 0 ≡ ports_in bs
     unfolding is_image ports_in
     right a b c = rw (d-in, ← e, a, eq-eqb _ _ b, c)
+
+-- the numbers of the head, as the code has their widths
+abbrev numbers : List ℕ → List ℕ
+numbers bs = unpack (1 ∷ 1 ∷ 2 ∷ 2 ∷ 2 ∷ 2 ∷ 2 ∷ 2 ∷ []) bs
+
+-- what is answered where the heads are compared, by what the comparison says
+pub right-some : (bs : List ℕ) → size_good (get_or (numbers bs) 1 0) ≡ true → length bs ≡ size (get_or (numbers bs) 1 0)
+    → pointwise nat_eq (numbers bs) (head_values (get_or (numbers bs) 1 0)) ≡ true → Some (get_or (numbers bs) 1 0) ≡ some_ports (ports_in bs)
+unfolding head_widths some_ports
+right-some bs g l h =
+    let e = right bs (numbers bs) refl g l (sym (compared bs (numbers bs) refl _ refl) ∙ h) in
+    rw (← e, ne_eqb (get_or (numbers bs) 1 0) 0 (λ z. absurd (omega (arith, z, (size-good-fits _ g).0))))
+
+pub wrong-none : (bs : List ℕ) → pointwise nat_eq (numbers bs) (head_values (get_or (numbers bs) 1 0)) ≡ false → None ≡ some_ports (ports_in bs)
+unfolding head_widths some_ports
+wrong-none bs h = ap some_ports (wrong-head bs (numbers bs) refl (sym (compared bs (numbers bs) refl _ refl) ∙ h))
+
+-- the heads from number 0 on
+pub all-numbers : (bs : List ℕ) → take 8 (numbers bs) ≡ numbers bs
+all-numbers bs = take_all 8 (numbers bs) (omega (arith, length-unpack (1 ∷ 1 ∷ 2 ∷ 2 ∷ 2 ∷ 2 ∷ 2 ∷ 2 ∷ []) bs))
+
+pub all-values : (d : ℕ) → take 8 (head_values d) ≡ head_values d
+unfolding head_values
+all-values d = refl
+
+-- the heads the other way round
+eqb-comm : (x y : ℕ) → eqb x y ≡ eqb y x
+eqb-comm x y = go (eqb y x) refl
+  where
+    go : (b : Bool) → eqb y x ≡ b → eqb x y ≡ eqb y x
+    go true e = eq-eqb x y (sym (eqb-true y x e)) ∙ sym e
+    go false e = ne_eqb x y (λ h. absurd (let z : false ≡ true = sym e ∙ eq-eqb y x (sym h) in cc)) ∙ sym e
+
+swapped : (xs ys : List ℕ) → pointwise nat_eq xs ys ≡ pointwise nat_eq ys xs
+swapped [] [] = refl
+swapped [] (y ∷ ys) = refl
+swapped (x ∷ xs) [] = refl
+swapped (x ∷ xs) (y ∷ ys) = rw (swapped xs ys) (ap (λ (b : Bool). b && pointwise nat_eq ys xs) (eqb-comm x y))
+
+pub other-way : (bs : List ℕ) (d : ℕ) → pointwise nat_eq (head_values d) (numbers bs) ≡ pointwise nat_eq (numbers bs) (head_values d)
+other-way bs d = swapped (head_values d) (numbers bs)
+
+-- what the goals of the comparison are proved by, however the code compares
+pub ruleset comparing = (right-some, wrong-none, all-numbers, all-values, other-way)

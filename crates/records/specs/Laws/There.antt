@@ -1,5 +1,5 @@
 -- What is read of a record that the bytes have, and of one that they end before.
-use Rattle.std.specs.Prelude.{◌≡◌, Bool, List, [], ◌∷◌, ◌++◌, ℕ, ◌+◌, ◌-◌, ◌≤◌, ◌<◌, length, take, drop}
+use Rattle.std.specs.Prelude.{◌≡◌, Bool, List, [], ◌∷◌, ◌++◌, ℕ, ◌+◌, ◌-◌, ◌*◌, ◌≤◌, ◌<◌, length, take, drop}
 use Rattle.std.proofs.Math.Path.{refl}
 use Rattle.std.proofs.Common.{sym, ap, ◌∙◌, append-nil, drop_of_length-le, arith, length-drop, leb-true, leb-false, le-leb}
 use Rattle.std.proofs.Math.Seq.{take-length}
@@ -11,6 +11,9 @@ use Rattle.std.proofs.Math.ListN.{replicate}
 use Rattle.std.proofs.lemmas.List.{length-replicate}
 use Rattle.std.proofs.lemmas.List.Edits.{sets, sets-eq}
 use Rattle.model.specs.Bytes.{Bytes, sum, pack, unpack}
+use Rattle.model.specs.declared.Copies.{Copies}
+use Rattle.model.specs.Layout.{set_width, copies_widths, copies_of}
+use Rattle.layout.specs.Widths.{narrow, narrow-replicate, sum-replicate}
 use Rattle.layout.specs.Laws.Digits.{bytes_drop}
 use Rattle.layout.specs.Laws.Records.{Fits, length-unpack, unpack-fits, unpack-packed}
 use Rattle.records.specs.Records.{there, put_at, filled}
@@ -85,3 +88,18 @@ module _ {A : Type 0} (of : List ℕ → A) (ws : List ℕ) (none : of (replicat
       go false q =
           let g : v ≡ replicate (length ws) 0 = rw q at e in
           rw (q, g) (ap of (unpack-packed ws (replicate (length ws) 0) (zeros-fit ws)) ∙ none)
+
+-- the copy sets of a port, of what is read in three fields as wide as D asks
+pub copies-read : (d at : ℕ) (bs v : List ℕ) → v ≡ filled 3 (there (replicate 3 (set_width d)) at bs) → copies_of v ≡ copies_of (there (copies_widths d) at bs)
+unfolding copies_widths copies_of
+copies-read d at bs v e = made copies_of (copies_widths d) refl at bs v e
+
+-- three fields of w bytes
+pub three-long : (w : ℕ) → 3 * w ≡ sum (w ∷ w ∷ w ∷ [])
+three-long w = sum-replicate 3 w
+
+pub three-narrow : (w : ℕ) → w ≤ 8 → narrow (w ∷ w ∷ w ∷ []) ≡ true
+three-narrow w h = narrow-replicate 3 w h
+
+-- what the goals of reading the copy sets of a port are proved by, whatever their names
+pub ruleset reading = (copies-read, three-long, three-narrow)

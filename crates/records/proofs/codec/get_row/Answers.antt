@@ -1,8 +1,6 @@
 -- Before turn i the fields still to get give the whole record.
-use Rattle.std.proofs.Common.{arith, ◌≡◌, ap, sym, ◌∙◌, length, replicate}
+use Rattle.std.proofs.Common.{arith, ◌≡◌, sym, ◌∙◌, length, replicate}
 use Rattle.std.proofs.lemmas.List.{length-replicate}
-use Rattle.model.specs.Bytes.{value}
-use Rattle.layout.specs.Widths.{narrow_at}
 use Rattle.layout.specs.Laws.Records.{length-unpack}
 use Rattle.records.specs.Laws.Rows.{get-field, get-end, field_fits}
 use Rattle.records.specs.Laws.There.{sets-whole}
@@ -19,16 +17,12 @@ split_at-requires g c =
     let f = c.args.form.now in
     omega (arith, c.loop-i.invariant.fits, field_fits f.widths c.loop-i.i (omega (arith, f.many, c.loop-i-test.true)))
 
-pub get-requires : goal.get-requires
-get-requires g c =
-    let f = c.args.form.now in
-    omega (arith, c.split_at.ensures.front_len, narrow_at f.widths c.loop-i.i f.small)
-
+-- what was got is the field's number, by the facts of the turn, whatever their names
 pub loop-i-preserved : goal.loop-i-preserved
 loop-i-preserved g c =
     let f = c.args.form.now in
-    get-field f.widths c.loop-i.i c.loop-i.values c.loop-i.rest.now _ _ _ (omega (arith, f.many, c.loop-i-test.true)) c.loop-i.invariant
-    (c.get.ensures ∙ ap value c.split_at.ensures.front) c.split_at.ensures.back
+    get-field f.widths c.loop-i.i c.loop-i.values c.loop-i.rest.now _ _ c.get.result (omega (arith, f.many, c.loop-i-test.true)) c.loop-i.invariant (grind arith)
+    c.split_at.ensures.back
 
 pub returns : goal.returns
 returns g c = let f = c.args.form.now in get-end f.widths c.loop-i.i _ _ _ (omega (arith, f.many, c.loop-i-test.false)) c.loop-i.invariant
