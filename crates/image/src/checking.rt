@@ -109,6 +109,7 @@ impl Held<'_> {
 }
 
 // D of an image that is accepted, else the reader's answer. What is bad is looked for in a second reading, so that the check of a good image is short.
+#[tactic(auto, using(crate::proofs::Laws::Checking::checks_refused))]
 pub fn check(bytes: &[u8]) -> Result<u8, Answer>
     ensures { result ≡ checked bytes.now }
 {

@@ -5,7 +5,7 @@ ghost use Rattle.records.specs.Records.{ports_in};
 ghost use Rattle.image.specs.Image as Image;
 
 use crate::checking;
-use model::{Made, Table};
+use model::{Answer, Made, Table};
 
 // Fills the fresh table of D = 1 with the image of d ports.
 fn fill(table: &mut Table, bytes: &[u8], d: u8)
@@ -23,14 +23,27 @@ fn fill(table: &mut Table, bytes: &[u8], d: u8)
     }
 }
 
+// What reading answers: the check's refusal, else DONE. Apart from `read`, so that each is proved by itself.
+#[tactic(auto, using(crate::proofs::Laws::Reading::reading))]
+fn answer(bytes: &[u8]) -> Answer
+    ensures { result ≡ (Image.decode bytes.now).answer }
+{
+    match checking::check(bytes) {
+        Ok(_) => Answer::Done,
+        Err(answer) => answer,
+    }
+}
+
 // Reads an image: BAD IMAGE, then BAD TABLE; refused, it gives the fresh table of D = 1.
+#[tactic(auto, using(crate::proofs::Laws::Reading::reading))]
 pub fn read(bytes: &[u8]) -> Made
     ensures { result ≡ Image.decode bytes.now }
 {
     let mut made = answers::fresh(1);
-    match checking::check(bytes) {
-        Ok(d) => fill(&mut made.table, bytes, d),
-        Err(answer) => made.answer = answer,
+    made.answer = answer(bytes);
+    // A bad table has its D too: this test alone keeps it from being filled in.
+    if answers::number(made.answer) == 0 {
+        fill(&mut made.table, bytes, records::d_in(bytes));
     }
     made
 }

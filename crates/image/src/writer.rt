@@ -7,6 +7,7 @@ use model::{Answer, Fault, Table};
 use rules::{faults, good};
 
 // Writes the image of a table, and answers its length: BAD TABLE, then SHORT ROOM; refused, the room is as it was.
+#[tactic(auto, using(crate::proofs::Laws::Writing::writing))]
 pub fn write(table: Table, room: &mut [u8]) -> Result<usize, Answer>
     ensures value { result ≡ Image.written (Image.write_answer table (length room.old)) table }
     ensures room_after { room.new ≡ Image.room_after (Image.write_answer table (length room.old)) table room.old }

@@ -173,3 +173,7 @@ module _ (bs : List ℕ) where
   pub checks-good : (d : ℕ) → d ≡ ports_in bs → 0 < d → good (held d bs) ≡ true → checked bs ≡ Ok d
   unfolding checked
   checks-good d e p g = rw (reads-good d e p g) (ap Ok (sym (is-image bs d e p).1))
+
+  -- the same of a table that is not good, from D as an option
+  pub checks_refused : (d : ℕ) → some_ports (ports_in bs) ≡ Some d → good (held d bs) ≡ false → Err (BadTable (bad_in (held d bs))) ≡ checked bs
+  checks_refused d e g = let p = some-ports (ports_in bs) d e in sym (checks-bad d p.0 p.1 g)

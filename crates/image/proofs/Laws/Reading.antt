@@ -1,7 +1,7 @@
 -- Reading as the code does it: by what the check answers, and port by port into a table that is all 0.
 use Rattle.std.specs.Prelude.{◌≡◌, Bool, Ok, Err, List, [], ◌∷◌, ◌++◌, ℕ, suc, ◌+◌, ◌-◌, ◌<◌, length, get_or, set, take, replicate}
 use Rattle.std.proofs.Math.Path.{refl}
-use Rattle.std.proofs.Common.{sym, ◌∙◌, add-one, arith, take-suc, length-take-le}
+use Rattle.std.proofs.Common.{sym, ap, ◌∙◌, add-one, arith, take-suc, length-take-le}
 use Rattle.std.proofs.Math.Bool.{true, false}
 use Rattle.std.proofs.Math.Nat.{sub-zero}
 use Rattle.std.proofs.lemmas.List.{set_at}
@@ -10,11 +10,12 @@ use Rattle.model.specs.declared.Port.{Port}
 use Rattle.model.specs.declared.Copies.{Copies}
 use Rattle.model.specs.declared.Shared.{Shared}
 use Rattle.model.specs.declared.Table.{Table}
-use Rattle.model.specs.Table.{room, table, no_port, no_copies, port_at, copies_at, fresh_table}
+use Rattle.model.specs.declared.Made.{Made}
+use Rattle.model.specs.Table.{room, table, no_port, no_copies, port_at, copies_at, size_good, fresh_table}
 use Rattle.model.specs.Good.{good, bad_in}
 use Rattle.model.specs.declared.Answer.{Answer}
 use Rattle.model.specs.declared.Answer.TheVariants.{Done, BadTable, BadImage}
-use Rattle.model.specs.Event.{number_of}
+use Rattle.model.specs.Event.{number_of, fresh}
 use Rattle.model.specs.Bytes.{value, unpack}
 use Rattle.model.specs.Layout.{head_widths, d_in, is_image}
 use Rattle.records.specs.Records.{ports_in}
@@ -62,6 +63,11 @@ module _ (bs : List ℕ) (d : ℕ) (e : d ≡ ports_in bs) (p : 0 < d) where
       tables t.ports _ t.copies _ t.shared _ (r.ports ∙ refill no_port (held d bs).ports d s.ports (λ k a b. port-above d bs k a))
       (r.copies ∙ refill no_copies (held d bs).copies d s.copies (λ k a b. copies-above d bs k a))
       r.shared
+
+-- the table that the reader begins with
+pub fresh-made : (m : Made) → m ≡ fresh 1 → m.table ≡ fresh_table 1
+unfolding fresh size_good room
+fresh-made m e = rw e
 
 -- byte 1 is D
 pub d-byte : (bs : List ℕ) → get_or bs 1 0 ≡ d_in bs
@@ -114,3 +120,44 @@ module _ (bs : List ℕ) where
       go false q g r = let f : Err BadImage ≡ Err a = rw q at e in
           let z : BadImage ≡ a = cc in
           rw (q, ← z)
+
+  -- what is answered, by the check's result
+  pub answer-accepted : (d : ℕ) → checked bs ≡ Ok d → Done ≡ (decode bs).answer
+  answer-accepted d e = ap (λ (m : Made). m.answer) (sym (read-accepted d e))
+
+  pub answer-refused : (a : Answer) → checked bs ≡ Err a → a ≡ (decode bs).answer
+  answer-refused a e = ap (λ (m : Made). m.answer) (sym (read-refused a e))
+
+  -- what is not BAD IMAGE has ports, as many as byte 1 says: a bad table too
+  pub ports-some : number_of (decode bs).answer < 11 → 0 < get_or bs 1 0
+  unfolding decode
+  ports-some h = go (is_image bs) refl
+    where
+      go : (b : Bool) → is_image bs ≡ b → 0 < get_or bs 1 0
+      go true q = omega (arith, d-byte bs, (image-tests bs q).some)
+      go false q = absurd (omega (arith, rw q at h))
+
+  pub ports-byte : number_of (decode bs).answer < 11 → get_or bs 1 0 ≡ ports_in bs
+  unfolding decode ports_in
+  ports-byte h = go (is_image bs) refl
+    where
+      go : (b : Bool) → is_image bs ≡ b → get_or bs 1 0 ≡ ports_in bs
+      go true q = rw q (d-byte bs)
+      go false q = absurd (omega (arith, rw q at h))
+
+  -- the table that goes with an answer, by the answer's number
+  pub table-accepted : number_of (decode bs).answer ≡ 0 → (decode bs).table ≡ held (get_or bs 1 0) bs
+  unfolding decode
+  table-accepted h = let a = accepted-image h in rw (a.0, a.1, d-byte bs)
+
+  pub table-refused : 0 < number_of (decode bs).answer → (decode bs).table ≡ fresh_table 1
+  unfolding decode
+  table-refused h = go (is_image bs) refl (good (held (d_in bs) bs)) refl
+    where
+      go : (b : Bool) → is_image bs ≡ b → (g : Bool) → good (held (d_in bs) bs) ≡ g → (decode bs).table ≡ fresh_table 1
+      go true q true r = absurd (omega (arith, rw (q, r) at h))
+      go true q false r = rw (q, r)
+      go false q g r = rw q
+
+-- what the goals of the reader are proved by, whatever their names
+pub ruleset reading = (fresh-made, answer-accepted, answer-refused, ports-some, ports-byte, table-accepted, table-refused)

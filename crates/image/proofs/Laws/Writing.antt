@@ -1,9 +1,10 @@
 -- Writing as the code does it: record by record, what is still to be written gives the whole image.
-use Rattle.std.specs.Prelude.{◌≡◌, Bool, true, false, None, Some, ℕ, suc, ◌+◌, ◌≤◌, ◌<◌, get_or, take, drop}
+use Rattle.std.specs.Prelude.{◌≡◌, Bool, true, false, None, Some, Ok, Err, ℕ, zero, suc, ◌+◌, ◌≤◌, ◌<◌, get_or, take, drop}
 use Rattle.std.proofs.Math.Path.{refl, ap}
 use Rattle.std.proofs.Common.{sym, ◌∙◌, zero-mul, arith, length-append, drop_of_length-le, drop-cons, length-take-le}
 use mathlib.Core.List.{List, [], ◌++◌, map, flat_map, append_assoc, append-nil}
 use Rattle.std.proofs.Math.Nat.{suc-mul}
+use native.Mathlib.Nat.{le_antisymm}
 use Rattle.std.proofs.Math.Numerals.{add-one}
 use borrow.Author.Tests.{lt-ltb, le-ltb}
 use Rattle.std.proofs.Math.ListN.{length}
@@ -22,7 +23,8 @@ use Rattle.layout.specs.Laws.Records.{packs, length-pack}
 use Rattle.records.specs.Records.{put_at}
 use Rattle.records.specs.Laws.Rows.{sets-append}
 use Rattle.records.specs.Laws.There.{put-inside}
-use Rattle.image.specs.Image.{encode, write_answer}
+use Rattle.model.proofs.Laws.Rules.{shared-rules}
+use Rattle.image.specs.Image.{encode, write_answer, written, room_after}
 use Rattle.image.proofs.Laws.Encoded.{length-encode}
 
 -- of the bytes `all` to be written to the start of a room, `rest` is still to be written, from `at` on
@@ -157,3 +159,91 @@ module _ (t : Table) (n : ℕ) where
   pub answer-done : good t ≡ true → size t.shared.d ≤ n → write_answer t n ≡ Done
   unfolding write_answer
   answer-done g k = rw (g, le-ltb n (size t.shared.d) k)
+
+-- the room after the ports below k are put, and after the copy sets of those below j
+pub ports_put : Table → List ℕ → ℕ → List ℕ
+ports_put t now zero = now
+ports_put t now (suc k) = put_at port_widths (port_values (port_at t k)) (port_place k) (ports_put t now k)
+
+pub copies_put : Table → List ℕ → ℕ → List ℕ
+copies_put t now zero = now
+copies_put t now (suc j) = put_at (copies_widths t.shared.d) (copies_values (copies_at t j)) (copies_place t.shared.d j) (copies_put t now j)
+
+module _ (t : Table) (start : List ℕ) where
+  pub ports-begun : start ≡ ports_put t start 0
+  unfolding ports_put
+  ports-begun = refl
+
+  pub copies-begun : start ≡ copies_put t start 0
+  unfolding copies_put
+  copies-begun = refl
+
+  module _ (now next : List ℕ) (i : ℕ) where
+    pub ports-next : now ≡ ports_put t start i → next ≡ put_at port_widths (port_values (port_at t i)) (port_place i) now → next ≡ ports_put t start (i + 1)
+    unfolding ports_put
+    ports-next e n = rw (n, e, add-one i)
+
+    pub copies-next : now ≡ copies_put t start i → next ≡ put_at (copies_widths t.shared.d) (copies_values (copies_at t i)) (copies_place t.shared.d i) now
+        → next ≡ copies_put t start (i + 1)
+    unfolding copies_put
+    copies-next e n = rw (n, e, add-one i)
+
+module _ (t : Table) (s : Sized t) (h : t.shared.d ≤ room) (out : List ℕ) where
+  ports-all : (now : List ℕ) (k : ℕ) → k ≤ t.shared.d → PortsFrom t out now 0 → PortsFrom t out (ports_put t now k) k
+  unfolding ports_put
+  ports-all now zero l w = w
+  ports-all now (suc k) l w =
+      rw (← add-one k) (port-written t s h out (ports_put t now k) (ports_put t now (suc k)) k (omega (arith, l)) (ports-all now k (omega (arith, l)) w) refl)
+
+  copies-all : (now : List ℕ) (j : ℕ) → j ≤ t.shared.d → CopiesFrom t out now 0 → CopiesFrom t out (copies_put t now j) j
+  unfolding copies_put
+  copies-all now zero l w = w
+  copies-all now (suc j) l w =
+      rw (← add-one j) (copies-written t s h out (copies_put t now j) (copies_put t now (suc j)) j (omega (arith, l)) (copies-all now j (omega (arith, l)) w) refl)
+
+-- what is answered, and the room, by what was found: it is said here by no name of the code, so that each goal finds it by itself
+module _ (t : Table) where
+  pub some-answer : (n : ℕ) (f : Fault) → found (bad_in t) ≡ Some f → Err (BadTable f) ≡ written (write_answer t n) t
+  unfolding written
+  some-answer n f e = let b = some-found t f e in rw (answer-bad t n b.0, b.1)
+
+  pub some-room : (n : ℕ) (out : List ℕ) (f : Fault) → found (bad_in t) ≡ Some f → out ≡ room_after (write_answer t n) t out
+  unfolding room_after
+  some-room n out f e = let b = some-found t f e in rw (answer-bad t n b.0)
+
+  pub none-fits : found (bad_in t) ≡ None → t.shared.d ≤ 64
+  unfolding room
+  none-fits e = (shared-rules t (none-found t e)).fits
+
+  pub short-answer : (n : ℕ) → found (bad_in t) ≡ None → n < size t.shared.d → Err ShortRoom ≡ written (write_answer t n) t
+  unfolding written
+  short-answer n e k = rw (answer-short t n (none-found t e) k)
+
+  pub short-room : (n : ℕ) (out : List ℕ) → found (bad_in t) ≡ None → n < size t.shared.d → out ≡ room_after (write_answer t n) t out
+  unfolding room_after
+  short-room n out e k = rw (answer-short t n (none-found t e) k)
+
+  pub done-answer : (n : ℕ) → found (bad_in t) ≡ None → size t.shared.d ≤ n → Ok (size t.shared.d) ≡ written (write_answer t n) t
+  unfolding written
+  done-answer n e k = rw (answer-done t n (none-found t e) k)
+
+  pub done-room : (out : List ℕ) (k j : ℕ) → length t.ports ≡ 64 → length t.copies ≡ 64 → found (bad_in t) ≡ None → size t.shared.d ≤ length out
+      → k ≤ t.shared.d → t.shared.d ≤ k → j ≤ t.shared.d → t.shared.d ≤ j
+      → copies_put t
+      (put_at (copied_widths t.shared.d) (copied_values t.shared) (port_place t.shared.d)
+      (ports_put t (put_at shared_widths (shared_values t.shared) (sum head_widths) (put_at head_widths (head_values t.shared.d) 0 out)) k))
+      j
+      ≡ room_after (write_answer t (length out)) t out
+  unfolding room_after room
+  done-room out k j a b e f k0 k1 j0 j1 =
+      let d = t.shared.d in
+      let s : Sized t = record { ports = a; copies = b } in
+      let h = none-fits e in
+      let begun = start-written t s h out _ _ f refl refl in
+      let ports = ports-all t s h out _ d (omega arith) begun in
+      let copied = copied-written t s h out _ _ ports refl in
+      let all = copies-all t s h out _ d (omega arith) copied in
+      rw (le_antisymm k0 k1, le_antisymm j0 j1, answer-done t (length out) (none-found t e) f) (all-written t s h out _ all)
+
+-- what the goals of the writer are proved by, whatever their names
+pub ruleset writing = (some-answer, some-room, none-fits, short-answer, short-room, done-answer, done-room)

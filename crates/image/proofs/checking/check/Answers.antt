@@ -1,6 +1,6 @@
 use mathlib.Core.Path.{sym, ◌∙◌}
 use Rattle.image.proofs.Laws.Held.{shared-held, is-image}
-use Rattle.image.proofs.Laws.Checking.{some-ports, no-ports, checks-none, checks-bad, checks-good}
+use Rattle.image.proofs.Laws.Checking.{some-ports, no-ports, checks-none, checks-good}
 use Rattle.image.proofs.Laws.Reading.{d-byte}
 use Rattle.image.proofs.checking.check.Goals as goal
 
@@ -11,11 +11,6 @@ pub invariant_of-image : goal.invariant_of-image
 invariant_of-image c =
     let p = some-ports _ _ (sym c.ports_in.ensures ∙ c.in-Some.is) in
     (p.1, p.0, c.shared_in.ensures ∙ shared-held c.args.bytes.now _ p.0 p.1)
-
-pub returns-then-not-sound : goal.returns-then-not-sound
-returns-then-not-sound c =
-    let p = some-ports _ _ (sym c.ports_in.ensures ∙ c.in-Some.is) in
-    rw c.bad_in.ensures (sym (checks-bad _ _ p.0 p.1 (sym c.sound.ensures ∙ c.if-not-sound.true)))
 
 pub returns : goal.returns
 returns c =

@@ -1,11 +1,10 @@
-use mathlib.Core.List.{List}
-use Prim.Native.Nat.{ℕ}
-use Rattle.image.proofs.Laws.Writing.{PortsFrom, CopiesFrom}
+use Rattle.std.specs.Prelude.{◌≡◌}
+use Rattle.image.proofs.Laws.Writing.{ports_put, copies_put}
 use Rattle.image.proofs.writer.write.Given as goal
 
--- where all ports were to be written when a loop began, those from k on are; so for copy sets
+-- the ports below k are put into the room that the loop began with; so the copy sets of those below j
 abbrev pub invariant-loop-k : goal.invariant-loop-k
-invariant-loop-k l = (out : List ℕ) → PortsFrom l.table out l.initial.room 0 → PortsFrom l.table out l.room l.k
+invariant-loop-k l = l.room ≡ ports_put l.table l.initial.room l.k
 
 abbrev pub invariant-loop-j : goal.invariant-loop-j
-invariant-loop-j l = (out : List ℕ) → CopiesFrom l.table out l.initial.room 0 → CopiesFrom l.table out l.room l.j
+invariant-loop-j l = l.room ≡ copies_put l.table l.initial.room l.j
