@@ -1,7 +1,7 @@
 -- An order on what it can see, and the table put together again.
 use Rattle.std.specs.Prelude.{◌≡◌, Bool, true, false, ℕ, eqb, set, Ok, Err}
 use Rattle.std.proofs.Math.Path.{refl, ap}
-use Rattle.std.proofs.Common.{◌∙◌, le_trans}
+use Rattle.std.proofs.Common.{sym, ◌∙◌, le_trans}
 use mathlib.Core.List.{List}
 use borrow.Author.Tests.{eq-eqb, ne_eqb, eqb-true, eqb-false}
 use Rattle.std.proofs.Math.Arith.{lt_of_le-ne}
@@ -20,11 +20,11 @@ use Rattle.model.proofs.Laws.Mask.{within-lt}
 use Rattle.model.proofs.Laws.Cases.{unrefused-step}
 use Rattle.model.proofs.Laws.Kept.{room_fits}
 use Rattle.answers.specs.declared.Costs.{Costs}
-use Rattle.answers.specs.Verdict.{paid}
+use Rattle.answers.specs.Verdict.{passed, paid}
 use Rattle.lock.specs.declared.orders.Acted.{Acted}
 use Rattle.lock.specs.Parts.{costs, view_on, stepped_on, kept, acted_on}
 use Rattle.lock.specs.Sight.{Sight, set_at, joined, refused, obeyed, moved-table, moved-paid}
-use Rattle.lock.specs.Ready.{Passed}
+use Rattle.lock.specs.Ready.{Passed, passed-ok, passed-err}
 
 -- a step sees what it needs
 pub sight-on : (s : Shared) (k e : ℕ) (p q : Port) → Passed s k e p → e ≡ stepping → Sight (view_on s k p q)
@@ -50,6 +50,13 @@ module _ (u : Touch) (s : Shared) (k e : ℕ) (p q : Port) (c : Copies) where
   pub act-stepped : number_of (paid_answer s k e p) ≡ 0 → e ≡ 2 → stepped_on u s k p q c ≡ acted_on u s k e p q c
   unfolding acted_on
   act-stepped z n = rw (eq-eqb (number_of (paid_answer s k e p)) 0 z, eq-eqb e 2 n)
+
+  -- an order that is refused, by what is answered
+  pub act-answered : (a : Answer) → passed (paid_answer s k e p) ≡ Err a → kept p s c (Err a) ≡ acted_on u s k e p q c
+  act-answered a h = let x = passed-err (paid_answer s k e p) a (sym h) in rw x.0 (act-refused x.1)
+
+-- what the goals of `act` are proved by, whatever they are called
+pub ruleset acting = (act-answered, passed-ok)
 
 abbrev pub acted : Table → ℕ → ℕ → Acted
 acted t k e = acted_on (touch_of t k) t.shared k e (port_at t k) (port_at t (home_of t k)) (copies_at t (home_of t k))

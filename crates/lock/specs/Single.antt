@@ -122,6 +122,20 @@ outcome-ok t r o c e h = rw e at h
 pub outcome-err : (t : Table) (r : Result Costs Answer) (o : Outcome) (a : Answer) → r ≡ Err a → outcome_of t r ≡ o → free a t ≡ o
 outcome-err t r o a e h = rw e at h
 
+-- what an event leaves, by what is bad, and by what its order costs or why it is refused
+module _ (t : Table) (k e : ℕ) where
+  pub told-refused : (f : Fault) → found (bad_in t) ≡ Some f → free (BadTable f) t ≡ event t k e
+  told-refused f h = event-refused t k e f (sym h)
+
+  pub told-ok : (c : Costs) → found (bad_in t) ≡ None → paid (paid_event t k e) ≡ Ok c → outcome (paid_event t k e).table c.cached c.distributed Done ≡ event t k e
+  told-ok c h p = outcome-ok _ _ _ c p (event-carried t k e (sym h))
+
+  pub told-err : (a : Answer) → found (bad_in t) ≡ None → paid (paid_event t k e) ≡ Err a → free a (paid_event t k e).table ≡ event t k e
+  told-err a h p = outcome-err _ _ _ a p (event-carried t k e (sym h))
+
+-- what the goal of `event` is proved by, whatever its parts are called
+pub ruleset telling = (told-refused, told-ok, told-err)
+
 -- the outcome from what an order leaves, where j is the port that it would touch
 abbrev pub assembled : Table → ℕ → ℕ → Acted → Outcome
 assembled t k j l = outcome_of (joined t k j l) l.paid

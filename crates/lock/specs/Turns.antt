@@ -120,6 +120,13 @@ module _ (xs : List ℕ) (n : ℕ) (t₀ : Table) (a₀ : List ℕ) where
       let o = paid-event t k e (r.sound h) in
       turned i t u a c h r (p ∙ ap (λ (x : Outcome). x.table) o) (q ∙ order-code t k e ∙ ap code_of o)
 
+  -- the same, where the answer is put at j
+  pub turn-at : (i j : ℕ) (t u : Table) (a : List ℕ) (c : ℕ) → i < n → Running xs n t₀ a₀ i t a → j ≡ i
+      → u ≡ (paid_event t (get_or xs (2 * i) 0) (get_or xs (2 * i + 1) 0)).table
+      → c ≡ Verdict.code_of (paid (paid_event t (get_or xs (2 * i) 0) (get_or xs (2 * i + 1) 0)))
+      → Running xs n t₀ a₀ (i + 1) u (set a j c)
+  turn-at i j t u a c h r z p q = rw z (turn-paid i t u a c h r p q)
+
   module _ (i : ℕ) (t : Table) (a : List ℕ) (h : i < n) (r : Running xs n t₀ a₀ i t a) (k : ℕ) (p : k ≡ slot_of (get_or xs (2 * i) 0)) where
     abbrev port : ℕ
     port = get_or xs (2 * i) 0

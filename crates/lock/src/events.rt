@@ -15,6 +15,7 @@ pub fn fresh(d: u64) -> Made
 }
 
 // An event on any table, at any port, of any number: a check of the table, and one order.
+#[tactic(auto, using(crate::specs::Single::telling))]
 pub fn event(mut table: Table, port: u64, event: u64) -> Outcome
     ensures { result ≡ Event.event table port event }
 {

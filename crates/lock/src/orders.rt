@@ -118,6 +118,7 @@ impl Reach {
 }
 
 // What any event leaves: refused, all is as it was.
+#[tactic(auto, using(crate::specs::Acted::acting))]
 pub fn act(reach: Reach, event: u64) -> Acted
     ensures { result ≡ Parts.acted_on reach.touch reach.shared reach.port event reach.own reach.touched reach.copies }
 {

@@ -12,19 +12,20 @@ pub fn run(mut table: Table, orders: &[u64], answers: &mut [u64]) -> Made
     ensures value { result ≡ Run.run table (Run.orders_for orders.now answers.old) }
     ensures answers_after { answers.new ≡ Run.run_answers table (Run.orders_for orders.now answers.old) answers.old }
 {
-    if let Some(bad) = faults::bad_in(&table) {
-        return Made {
-            table,
-            answer: Answer::BadTable(bad),
-        };
-    }
-    // Stays a loop over numbers: tried with `chunks_exact(2).zip(answers)`, and the proof of `run` doesn't close.
-    let n = (orders.len() / 2).min(answers.len());
-    for i in 0..n {
-        answers[i] = orders::turn(&mut table, orders[2 * i], orders[2 * i + 1]);
+    let bad = faults::bad_in(&table);
+    let sound = bad.is_none();
+    if sound {
+        // Stays a loop over numbers: tried with `chunks_exact(2).zip(answers)`, and the proof of `run` doesn't close.
+        let n = (orders.len() / 2).min(answers.len());
+        for i in 0..n {
+            answers[i] = orders::turn(&mut table, orders[2 * i], orders[2 * i + 1]);
+        }
     }
     Made {
         table,
-        answer: Answer::Done,
+        answer: match bad {
+            Some(bad) => Answer::BadTable(bad),
+            None => Answer::Done,
+        },
     }
 }
