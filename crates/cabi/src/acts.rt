@@ -81,6 +81,7 @@ pub fn carry_in(image: &mut [u8], d: u8, k: u8, event: u64) -> Costs
 }
 
 // Any order on the image of d ports.
+#[tactic(auto, using(crate::specs::Laws::Acting::acting))]
 pub fn act_in(image: &mut [u8], d: u8, port: u64, event: u64) -> Result<Costs, Answer>
     requires { Holds d image.old }
     ensures value { result ≡ paid (Events.event (held d image.old) port event) }

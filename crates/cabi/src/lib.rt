@@ -41,12 +41,16 @@ pub extern "C" fn yarvelow_check(image: &[u8]) -> u64
 }
 
 // What an event on an image comes to: refused by the reader, then by the event, every byte is as it was.
+#[tactic(auto, using(crate::specs::Laws::Calling::event_rules))]
 fn event_in(image: &mut [u8], port: u64, event: u64) -> Result<Costs, Answer>
     ensures value { result ≡ paid (Calls.event_on image.old port event) }
     ensures image_after { image.new ≡ Calls.event_image image.old port event }
 {
-    let d = checking::check(image)?;
-    acts::act_in(image, d, port, event)
+    // Stays a match where `?` would do: a wrong program turns one arm alone (docs/WRONG.md).
+    match checking::check(image) {
+        Ok(d) => acts::act_in(image, d, port, event),
+        Err(answer) => Err(answer),
+    }
 }
 
 // An event on an image, changed where it stands: number + 256 * cached + 65536 * distributed. Refused, by the reader and then by the event: every byte is as
@@ -60,6 +64,7 @@ pub extern "C" fn yarvelow_event(image: &mut [u8], port: u64, event: u64) -> u64
 }
 
 // The same from one buffer into another: refused also for want of room, every byte of `next` is as it was.
+#[tactic(auto, using(crate::specs::Laws::Calling::into_rules))]
 fn event_into(image: &[u8], next: &mut [u8], port: u64, event: u64) -> Result<Costs, Answer>
     ensures value { result ≡ paid (Calls.into_on image.now (length next.old) port event) }
     ensures next_after { next.new ≡ Calls.into_next image.now next.old port event }

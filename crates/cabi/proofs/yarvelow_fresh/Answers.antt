@@ -21,6 +21,6 @@ pub returns-in-Err : goal.returns-in-Err
 returns-in-Err c =
     let g = sym c.size_good.ensures ∙ c.if-not-size_good.false in
     record {
-      value = c.number-in-Err.ensures ∙ fresh-unwritten c.args.d c.args.room.now g _ c.in-Err.ensures.value;
+      value = omega (arith, c.number-in-Err.ensures, fresh-unwritten c.args.d c.args.room.now g _ c.in-Err.ensures.value);
       room_after = fresh-left c.args.d c.args.room.now g _ c.in-Err.ensures.room_after;
     }

@@ -247,3 +247,6 @@ module _ (d : ℕ) (bs : List ℕ) (k : ℕ) (a : Acts d bs k stepping) where
         ∙ ap (λ (n : ℕ). move_put k j u.kind m sets (sets_put n j (set_place u.cell n j) m.makes f.set (encode was))) (sym (d-held d bs))
         ∙ put_step was (held-sized bs d a.holds.ports a.holds.some) (rw (d-held d bs) fits) k j u m f.set sets below (rw homed (home-in was k a.holds.sound below))
         ∙ rw (o, e, touched, homed, other, moved, charged, mine)
+
+-- what the goals of an order on an image are proved by, whatever their names
+pub ruleset acting = (refuses-port, refused-made, passed-ok)

@@ -24,7 +24,7 @@ use Rattle.answers.proofs.Verdict.{code-paid}
 use Rattle.model.proofs.Laws.Cases.{refused-free}
 use Rattle.model.proofs.Laws.After.{after-sized, after-d}
 use Rattle.model.proofs.Laws.Kept.{good-after}
-use Rattle.lock.specs.Ready.{passed-err}
+use Rattle.lock.specs.Ready.{passed-ok, passed-err}
 use Rattle.model.specs.Bytes.{Bytes}
 use Rattle.model.specs.Layout.{d_in}
 use Rattle.records.specs.Records.{ports_in}
@@ -36,7 +36,7 @@ use Rattle.image.proofs.Laws.Encoded.{encode-bytes}
 use Rattle.image.proofs.Laws.RoundTrip.{d-back, image-back, held_back, decode-encode}
 use Rattle.cabi.specs.Calls.{check_call, event_on, event_call, event_image, into_on, into_call, into_next, calls, calls_image}
 use Rattle.cabi.specs.Laws.Stepping.{event-done}
-use Rattle.cabi.specs.Laws.Acting.{Holds}
+use Rattle.cabi.specs.Laws.Acting.{Holds, refuses-port}
 
 -- an answer in one number: but for BAD TABLE, document 01's; 0 is DONE
 pub code-plain : (a : Answer) → (number_of a ≡ 1 → ⊥) → number_of a ≡ answer_code a
@@ -274,3 +274,63 @@ module _ (bs next : List ℕ) (k e : ℕ) (done : number_of (into_on bs (length 
       let z = eq-eqb _ _ made.number in
       let d = eq-eqb _ _ done in
       (ap Run.code_of made.whole, rw (d, z, r) (take_at out _ (length bs) m), rw (d, r) (drop_at out _ (length bs) m))
+
+-- what an image that the check accepts is
+module _ (bs : List ℕ) (d : ℕ) (c : checked bs ≡ Ok d) where
+  pub accepted-ports : d ≡ ports_in bs
+  accepted-ports = (check-holds bs d (sym c)).ports
+
+  pub accepted-some : 0 < d
+  accepted-some = (check-holds bs d (sym c)).some
+
+  pub accepted-sound : good (held d bs) ≡ true
+  accepted-sound = (check-holds bs d (sym c)).sound
+
+-- an order with costs is one that nothing refuses
+costs-passes : (t : Table) (k e : ℕ) (x : Costs) → Ok x ≡ paid (event t k e) → number_of (refusal t k e) ≡ 0
+unfolding paid event
+costs-passes t k e x r = go (eqb (number_of (refusal t k e)) 0) refl
+  where
+    go : (b : Bool) → eqb (number_of (refusal t k e)) 0 ≡ b → number_of (refusal t k e) ≡ 0
+    go true q = eqb-true _ _ q
+    go false q = let f : Ok x ≡ Err (refusal t k e) = rw (q, q) at r in cc
+
+-- an event into another buffer: refused, it leaves the buffer; done, it costs what it does on the table
+module _ (bs next : List ℕ) (k e : ℕ) where
+  pub next-unread : (a : Answer) → Err a ≡ checked bs → next ≡ into_next bs next k e
+  next-unread a r = (refused-into bs a next k e r).1
+
+  module _ (d : ℕ) (h : Holds d bs) (bytes : Bytes bs) where
+    pub next-refused : (a : Answer) → Err a ≡ passed (refusal (held d bs) k e) → next ≡ into_next bs next k e
+    next-refused a r = (into-refused d bs h bytes k e next a r).1
+
+    pub next-short : number_of (refusal (held d bs) k e) ≡ 0 → length next < length bs → next ≡ into_next bs next k e
+    next-short z l = (into-short d bs h bytes k e next z l).1
+
+    module _ (l : length bs ≤ length next) (x : Costs) (r : Ok x ≡ paid (event (held d bs) k e)) where
+      costs-made : (Ok x ≡ paid (into_on bs (length next) k e)) × (encode (event (held d bs) k e).table ++ drop (length bs) next ≡ into_next bs next k e)
+      costs-made = into-done d bs h bytes k e next (costs-passes (held d bs) k e x r) l (Ok x) (encode (event (held d bs) k e).table) (r, refl)
+
+      pub next-paid : Ok x ≡ paid (into_on bs (length next) k e)
+      next-paid = costs-made.0
+
+      pub next-made : encode (event (held d bs) k e).table ++ drop (length bs) next ≡ into_next bs next k e
+      next-made = costs-made.1
+
+-- an event where the image stands: the same
+module _ (bs : List ℕ) (k e : ℕ) where
+  pub image-unread : (a : Answer) → Err a ≡ checked bs → bs ≡ event_image bs k e
+  image-unread a r = (refused-event bs a k e r).1
+
+  module _ (d : ℕ) (h : Holds d bs) (bytes : Bytes bs) where
+    pub image-paid : paid (event (held d bs) k e) ≡ paid (event_on bs k e)
+    image-paid = (event-made d bs h bytes k e _ _ (refl, refl)).0
+
+    pub image-made : encode (event (held d bs) k e).table ≡ event_image bs k e
+    image-made = (event-made d bs h bytes k e _ _ (refl, refl)).1
+
+-- what the goals of an event on an image are proved by, whatever their names
+pub ruleset event_rules = (refused-event, accepted-ports, accepted-some, accepted-sound, image-unread, image-paid, image-made)
+
+-- what the goals of an event into another buffer are proved by, whatever their names
+pub ruleset into_rules = (refused-into, accepted-ports, accepted-some, accepted-sound, refuses-port, passed-ok, into-refused, into-short, next-unread, next-refused, next-short, next-paid, next-made)
