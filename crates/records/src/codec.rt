@@ -8,6 +8,7 @@ use layout::Form;
 
 // Puts v in the bytes of a field: the compiler makes one store of two, and of eight.
 // Stays cut by `%`, as in layout.
+#[tactic(auto, using(crate::specs::Laws::Rows::putting))]
 fn put(field: &mut [u8], v: u64)
     ensures { field.new ≡ little (length field.old) v }
 {

@@ -176,3 +176,18 @@ pointwise-same [] [] h = refl
 pointwise-same [] (y ∷ ys) h = absurd (omega (arith, h))
 pointwise-same (x ∷ xs) [] h = absurd (omega (arith, h))
 pointwise-same (x ∷ xs) (y ∷ ys) h = ap (λ (b : Bool). nat_eq x y && b) (pointwise-same xs ys (omega (arith, h)))
+
+-- what is put into a field of two bytes, and of eight
+pub put-two : (l : List ℕ) (v : ℕ) → length l ≡ 2 → to_le_bytes w16 (v % 65536) ≡ little (length l) v
+put-two l v e = rw e (little-two v)
+
+pub put-eight : (l : List ℕ) (v : ℕ) → length l ≡ 8 → to_le_bytes w64 v ≡ little (length l) v
+put-eight l v e = rw e (little-eight v)
+
+-- the bytes of a number, one by one
+pub eight-bytes : (v : ℕ) → get_or (to_le_bytes w64 v) 0 0 ∷ get_or (to_le_bytes w64 v) 1 0 ∷ get_or (to_le_bytes w64 v) 2 0 ∷ get_or (to_le_bytes w64 v) 3 0 ∷ get_or (to_le_bytes w64 v) 4 0
+    ∷ get_or (to_le_bytes w64 v) 5 0 ∷ get_or (to_le_bytes w64 v) 6 0 ∷ get_or (to_le_bytes w64 v) 7 0 ∷ [] ≡ to_le_bytes w64 v
+eight-bytes v = refl
+
+-- what the goals of putting a field are proved by, whatever their names
+pub ruleset putting = (put-two, put-eight, eight-bytes)
