@@ -15,6 +15,7 @@ use model::Answer;
 use rules::good;
 
 // Writes the image of a fresh table of d ports: number + 256 * length. Refused (9, then 10): the room is untouched, length 0.
+#[tactic(auto, using(crate::specs::Laws::Fresh::d_fits))]
 #[unsafe(no_mangle)]
 pub extern "C" fn yarvelow_fresh(d: u64, room: &mut [u8]) -> u64
     ensures value { result ≡ Calls.fresh_call d (length room.old) }

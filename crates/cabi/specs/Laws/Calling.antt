@@ -30,7 +30,7 @@ use Rattle.model.specs.Layout.{d_in}
 use Rattle.records.specs.Records.{ports_in}
 use Rattle.records.specs.Laws.Head.{image-tests}
 use Rattle.image.specs.Image.{held, encode, decode, checked, room_after}
-use Rattle.image.proofs.Laws.Held.{d-held, held-long, held-sized, held-encoded}
+use Rattle.image.proofs.Laws.Held.{is-image, d-held, held-long, held-sized, held-encoded}
 use Rattle.image.proofs.Laws.Reading.{d-byte, accepted-image}
 use Rattle.image.proofs.Laws.Encoded.{encode-bytes}
 use Rattle.image.proofs.Laws.RoundTrip.{d-back, image-back, held_back, decode-encode}
@@ -286,6 +286,19 @@ module _ (bs : List ℕ) (d : ℕ) (c : checked bs ≡ Ok d) where
   pub accepted-sound : good (held d bs) ≡ true
   accepted-sound = (check-holds bs d (sym c)).sound
 
+  -- its byte 1 is that D
+  accepted-byte : get_or bs 1 0 ≡ d
+  accepted-byte = d-byte bs ∙ sym (is-image bs d accepted-ports accepted-some).1
+
+  pub byte-ports : get_or bs 1 0 ≡ ports_in bs
+  byte-ports = accepted-byte ∙ accepted-ports
+
+  pub byte-some : 0 < get_or bs 1 0
+  byte-some = rw accepted-byte accepted-some
+
+  pub byte-sound : good (held (get_or bs 1 0) bs) ≡ true
+  byte-sound = rw accepted-byte accepted-sound
+
 -- an order with costs is one that nothing refuses
 costs-passes : (t : Table) (k e : ℕ) (x : Costs) → Ok x ≡ paid (event t k e) → number_of (refusal t k e) ≡ 0
 unfolding paid event
@@ -330,7 +343,7 @@ module _ (bs : List ℕ) (k e : ℕ) where
     image-made = (event-made d bs h bytes k e _ _ (refl, refl)).1
 
 -- what the goals of an event on an image are proved by, whatever their names
-pub ruleset event_rules = (refused-event, accepted-ports, accepted-some, accepted-sound, image-unread, image-paid, image-made)
+pub ruleset event_rules = (refused-event, byte-ports, byte-some, byte-sound, accepted-ports, accepted-some, accepted-sound, image-unread, image-paid, image-made)
 
 -- what the goals of an event into another buffer are proved by, whatever their names
 pub ruleset into_rules = (refused-into, accepted-ports, accepted-some, accepted-sound, refuses-port, passed-ok, into-refused, into-short, next-unread, next-refused, next-short, next-paid, next-made)

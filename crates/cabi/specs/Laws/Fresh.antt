@@ -15,6 +15,11 @@ use Rattle.image.proofs.Laws.Encoded.{size-narrow, size-wide}
 use Rattle.image.specs.Image.{write_answer, written, room_after}
 use Rattle.cabi.specs.Calls.{fresh_answer, fresh_call, fresh_room}
 
+-- a size that is good fits a table
+pub d_fits : (d : ℕ) → size_good d ≡ true → d ≤ 64
+unfolding room
+d_fits d e = (size-good-fits d e).1
+
 module _ (d : ℕ) (out : List ℕ) where
   pub fresh-refused : size_good d ≡ false → (9 ≡ fresh_call d (length out)) × (out ≡ fresh_room d out)
   unfolding fresh fresh_answer fresh_call fresh_room written room_after
